@@ -7,7 +7,7 @@ use Rattle.jvms_machine.specs.declared.trace.Item.TheVariants as item
 use Rattle.jvms_machine.specs.Events.{thread_of}
 use Rattle.velodrome.specs.Cycles.{IsIn}
 use Rattle.accesses.specs.Accesses.{Access, IsNoted, Last, OfThread, Place, TakesPlace, accesses_beside, accesses_of, beside_at, last_of, main_at, same_place}
-use Rattle.accesses.specs.Kept.{IsBesideNoted, IsMainNoted, IsNotedIn, beside_last, kept_at, kept_in, main_last, main_lasts, replaced}
+use Rattle.accesses.specs.Kept.{IsBesideNoted, IsMainNoted, IsNotedIn, beside_last, kept_at, kept_in, main_last, main_lasts, with_access}
 use Rattle.accesses.specs.OnePlace.{place_itself}
 use Rattle.accesses.specs.Places.{place_of}
 use Rattle.accesses.specs.Rooms.{set_value_at}
@@ -25,30 +25,30 @@ pub record IsOneNoted (last : Last) (i : Item) (y : Access) (old new : List Last
 
 -- ---- At its place
 
-replaced_has : (n : Noted) (ms : List Noted) → IsIn n (replaced n ms)
-replaced_has n [] = inl refl
-replaced_has n (m ∷ ms) = by (m.thread == n.thread) (replaced_has n ms)
+with_access_has : (n : Noted) (ms : List Noted) → IsIn n (with_access n ms)
+with_access_has n [] = inl refl
+with_access_has n (m ∷ ms) = by (m.thread == n.thread) (with_access_has n ms)
   where
-    by : (b : Bool) → IsIn n (replaced n ms) → IsIn n (if b then n ∷ ms else m ∷ replaced n ms)
+    by : (b : Bool) → IsIn n (with_access n ms) → IsIn n (if b then n ∷ ms else m ∷ with_access n ms)
     by true rest = inl refl
     by false rest = inr rest
 
-replaced_only : (n : Noted) (ms : List Noted) (k : Noted) → IsIn k (replaced n ms) → IsIn k ms ⊎ (k ≡ n)
-replaced_only n [] k (inl same) = inr same
-replaced_only n [] k (inr more) = absurd more
-replaced_only n (m ∷ ms) k is_in = by (m.thread == n.thread) (replaced_only n ms k) is_in
+with_access_only : (n : Noted) (ms : List Noted) (k : Noted) → IsIn k (with_access n ms) → IsIn k ms ⊎ (k ≡ n)
+with_access_only n [] k (inl same) = inr same
+with_access_only n [] k (inr more) = absurd more
+with_access_only n (m ∷ ms) k is_in = by (m.thread == n.thread) (with_access_only n ms k) is_in
   where
-    by : (b : Bool) → (IsIn k (replaced n ms) → IsIn k ms ⊎ (k ≡ n)) → IsIn k (if b then n ∷ ms else m ∷ replaced n ms) → IsIn k (m ∷ ms) ⊎ (k ≡ n)
+    by : (b : Bool) → (IsIn k (with_access n ms) → IsIn k ms ⊎ (k ≡ n)) → IsIn k (if b then n ∷ ms else m ∷ with_access n ms) → IsIn k (m ∷ ms) ⊎ (k ≡ n)
     by true rest (inl same) = inr same
     by true rest (inr more) = inl (inr more)
     by false rest (inl same) = inl (inl same)
     by false rest (inr more) = ⊎_elim (λ old. inl (inr old)) (λ new. inr new) (rest more)
 
-replaced_left : (n : Noted) (ms : List Noted) (k : Noted) → IsIn k ms → IsIn k (replaced n ms) ⊎ (k.thread ≡ n.thread)
-replaced_left n [] k is_in = absurd is_in
-replaced_left n (m ∷ ms) k is_in = by (m.thread == n.thread) refl (replaced_left n ms k) is_in
+with_access_left : (n : Noted) (ms : List Noted) (k : Noted) → IsIn k ms → IsIn k (with_access n ms) ⊎ (k.thread ≡ n.thread)
+with_access_left n [] k is_in = absurd is_in
+with_access_left n (m ∷ ms) k is_in = by (m.thread == n.thread) refl (with_access_left n ms k) is_in
   where
-    by : (b : Bool) → (m.thread == n.thread) ≡ b → (IsIn k ms → IsIn k (replaced n ms) ⊎ (k.thread ≡ n.thread)) → IsIn k (m ∷ ms) → IsIn k (if b then n ∷ ms else m ∷ replaced n ms) ⊎ (k.thread ≡ n.thread)
+    by : (b : Bool) → (m.thread == n.thread) ≡ b → (IsIn k ms → IsIn k (with_access n ms) ⊎ (k.thread ≡ n.thread)) → IsIn k (m ∷ ms) → IsIn k (if b then n ∷ ms else m ∷ with_access n ms) ⊎ (k.thread ≡ n.thread)
     by true same rest (inl is) = inr (ap (λ (x : Noted). x.thread) is ∙ eqb-true m.thread n.thread same)
     by true same rest (inr more) = inl (inr more)
     by false same rest (inl is) = inl (inl is)
@@ -79,14 +79,14 @@ main_noted p i number transaction old new is =
       left = λ k is_in. inr (record { place = near p old k is_in; covers = λ _. refl; conflicts = inl refl });
     }
 
-beside_kept : (p : Place) (n : Noted) (old new : PlaceAccesses) → IsBesideNoted n old new → kept_at p new ≡ main_lasts p old.main ++ map (beside_last p) (replaced n old.beside.items)
+beside_kept : (p : Place) (n : Noted) (old new : PlaceAccesses) → IsBesideNoted n old new → kept_at p new ≡ main_lasts p old.main ++ map (beside_last p) (with_access n old.beside.items)
 beside_kept p n old new is = (λ j. main_lasts p (is.main j) ++ map (beside_last p) (is.beside j))
 
 beside_left : (p : Place) (i : Item) (number transaction : ℕ) (old : PlaceAccesses) (k : Last) → IsIn k (kept_at p old)
-    → IsIn k (main_lasts p old.main ++ map (beside_last p) (replaced (noted number transaction i) old.beside.items)) ⊎ TakesPlace i k (beside_at p)
+    → IsIn k (main_lasts p old.main ++ map (beside_last p) (with_access (noted number transaction i) old.beside.items)) ⊎ TakesPlace i k (beside_at p)
 beside_left p i number transaction old k is_in =
     let n = noted number transaction i in
-    let ms = replaced n old.beside.items in
+    let ms = with_access n old.beside.items in
     ⊎_elim
     (λ front. inl (in_front k (main_lasts p old.main) (map (beside_last p) ms) front))
     (λ back. let w = of_map (beside_last p) k old.beside.items back in
@@ -97,26 +97,26 @@ beside_left p i number transaction old k is_in =
       covers = λ main. absurd (true≢false (sym main ∙ ap (λ (j : Last). j.access.is_main) w.2));
       conflicts = inr (ap (λ (j : Last). j.thread) w.2 ∙ one);
     }))
-    (replaced_left n old.beside.items w.0 w.1))
+    (with_access_left n old.beside.items w.0 w.1))
     (in_either k (main_lasts p old.main) (map (beside_last p) old.beside.items) is_in)
 
-beside_only : (p : Place) (n : Noted) (old : PlaceAccesses) (k : Last) → IsIn k (main_lasts p old.main ++ map (beside_last p) (replaced n old.beside.items)) → IsIn k (kept_at p old) ⊎ (k ≡ beside_last p n)
+beside_only : (p : Place) (n : Noted) (old : PlaceAccesses) (k : Last) → IsIn k (main_lasts p old.main ++ map (beside_last p) (with_access n old.beside.items)) → IsIn k (kept_at p old) ⊎ (k ≡ beside_last p n)
 beside_only p n old k is_in =
     ⊎_elim
     (λ front. inl (in_front k (main_lasts p old.main) (map (beside_last p) old.beside.items) front))
-    (λ back. let w = of_map (beside_last p) k (replaced n old.beside.items) back in
+    (λ back. let w = of_map (beside_last p) k (with_access n old.beside.items) back in
     ⊎_elim
     (λ old_one. inl (in_back k (main_lasts p old.main) (map (beside_last p) old.beside.items) (subst (λ (j : Last). IsIn j (map (beside_last p) old.beside.items)) (sym w.2) (in_map (beside_last p) w.0 old.beside.items old_one))))
     (λ same. inr (w.2 ∙ ap (beside_last p) same))
-    (replaced_only n old.beside.items w.0 w.1))
-    (in_either k (main_lasts p old.main) (map (beside_last p) (replaced n old.beside.items)) is_in)
+    (with_access_only n old.beside.items w.0 w.1))
+    (in_either k (main_lasts p old.main) (map (beside_last p) (with_access n old.beside.items)) is_in)
 
 beside_noted : (p : Place) (i : Item) (number transaction : ℕ) (old new : PlaceAccesses) → IsBesideNoted (noted number transaction i) old new → IsNotedAs number transaction i (beside_at p) (kept_at p old) (kept_at p new)
 beside_noted p i number transaction old new is =
     let n = noted number transaction i in
     let kept = beside_kept p n old new is in
     record {
-      added = subst (λ (ks : List Last). IsIn (beside_last p n) ks) (sym kept) (in_back _ (main_lasts p old.main) _ (in_map (beside_last p) n (replaced n old.beside.items) (replaced_has n old.beside.items)));
+      added = subst (λ (ks : List Last). IsIn (beside_last p n) ks) (sym kept) (in_back _ (main_lasts p old.main) _ (in_map (beside_last p) n (with_access n old.beside.items) (with_access_has n old.beside.items)));
       only = λ k is_in. beside_only p n old k (subst (IsIn k) kept is_in);
       left = λ k is_in. ⊎_elim (λ stays. inl (subst (IsIn k) (sym kept) stays)) (λ taken. inr taken) (beside_left p i number transaction old k is_in);
     }

@@ -3,7 +3,7 @@ use Rattle.std.proofs.Common.{◌≡◌, ◌≢◌, ℕ, zero, suc, ◌+◌, ◌
 use Rattle.std.proofs.lemmas.List.{get_or_append_left, get_or_push, length_push}
 use Rattle.std.proofs.lemmas.Bool.{cases_lt}
 use Rattle.accesses.specs.ByThread.{AreFound, Extends, IsEnd, IsWay, Leads, is_odd, linked_in, next_of, node_in, no_node, notes_of, thread_in, with_next}
-use Rattle.accesses.specs.Kept.{replaced}
+use Rattle.accesses.specs.Kept.{with_access}
 use Rattle.accesses.specs.declared.by_thread.Node.{Node}
 use Rattle.accesses.specs.declared.lasts.Noted.{Noted}
 
@@ -251,36 +251,36 @@ found_with_note ns i noted found same j less =
     } in
     same_found ns (noted_in ns i noted) more found j (omega arith)
 
-replaced_at : (ns : List Node) (i : ℕ) (noted : Noted) → i < length ns → thread_in ns i ≡ noted.thread → ((j : ℕ) → j < i → thread_in ns j ≢ noted.thread) → notes_of (noted_in ns i noted) ≡ replaced noted (notes_of ns)
-replaced_at [] i noted less same before = absurd (omega arith)
-replaced_at (n ∷ ns) zero noted less same before =
-    sym (ap (λ (b : Bool). if b then noted ∷ notes_of ns else n.noted ∷ replaced noted (notes_of ns)) (eq-eqb n.noted.thread noted.thread same))
-replaced_at (n ∷ ns) (suc i) noted less same before =
-    ap (λ (ms : List Noted). n.noted ∷ ms) (replaced_at ns i noted (omega arith) same (λ j low. before (suc j) (omega arith)))
-    ∙ sym (ap (λ (b : Bool). if b then noted ∷ notes_of ns else n.noted ∷ replaced noted (notes_of ns)) (ne_eqb n.noted.thread noted.thread (before 0 (omega arith))))
+with_access_at : (ns : List Node) (i : ℕ) (noted : Noted) → i < length ns → thread_in ns i ≡ noted.thread → ((j : ℕ) → j < i → thread_in ns j ≢ noted.thread) → notes_of (noted_in ns i noted) ≡ with_access noted (notes_of ns)
+with_access_at [] i noted less same before = absurd (omega arith)
+with_access_at (n ∷ ns) zero noted less same before =
+    sym (ap (λ (b : Bool). if b then noted ∷ notes_of ns else n.noted ∷ with_access noted (notes_of ns)) (eq-eqb n.noted.thread noted.thread same))
+with_access_at (n ∷ ns) (suc i) noted less same before =
+    ap (λ (ms : List Noted). n.noted ∷ ms) (with_access_at ns i noted (omega arith) same (λ j low. before (suc j) (omega arith)))
+    ∙ sym (ap (λ (b : Bool). if b then noted ∷ notes_of ns else n.noted ∷ with_access noted (notes_of ns)) (ne_eqb n.noted.thread noted.thread (before 0 (omega arith))))
 
-pub notes_replaced : (ns : List Node) (i : ℕ) (noted : Noted) → AreFound ns → i < length ns → thread_in ns i ≡ noted.thread → notes_of (noted_in ns i noted) ≡ replaced noted (notes_of ns)
-notes_replaced ns i noted found less same = replaced_at ns i noted less same (λ j low one.
+pub notes_with_access : (ns : List Node) (i : ℕ) (noted : Noted) → AreFound ns → i < length ns → thread_in ns i ≡ noted.thread → notes_of (noted_in ns i noted) ≡ with_access noted (notes_of ns)
+notes_with_access ns i noted found less same = with_access_at ns i noted less same (λ j low one.
     let v = starts ns noted.thread found i less same in
     let w = starts ns noted.thread found j (omega arith) one in
     let is : i ≡ j = one_node ns noted.thread v.0 w.0 0 noted.thread i j v.1 w.1 in
     omega arith)
 
-replaced_last : (ns : List Node) (noted : Noted) → ((j : ℕ) → j < length ns → thread_in ns j ≢ noted.thread) → notes_of ns ++ noted ∷ [] ≡ replaced noted (notes_of ns)
-replaced_last [] noted absent = refl
-replaced_last (n ∷ ns) noted absent =
-    ap (λ (ms : List Noted). n.noted ∷ ms) (replaced_last ns noted (λ j low. absent (suc j) (omega arith)))
-    ∙ sym (ap (λ (b : Bool). if b then noted ∷ notes_of ns else n.noted ∷ replaced noted (notes_of ns)) (ne_eqb n.noted.thread noted.thread (absent 0 (omega arith))))
+with_access_last : (ns : List Node) (noted : Noted) → ((j : ℕ) → j < length ns → thread_in ns j ≢ noted.thread) → notes_of ns ++ noted ∷ [] ≡ with_access noted (notes_of ns)
+with_access_last [] noted absent = refl
+with_access_last (n ∷ ns) noted absent =
+    ap (λ (ms : List Noted). n.noted ∷ ms) (with_access_last ns noted (λ j low. absent (suc j) (omega arith)))
+    ∙ sym (ap (λ (b : Bool). if b then noted ∷ notes_of ns else n.noted ∷ with_access noted (notes_of ns)) (ne_eqb n.noted.thread noted.thread (absent 0 (omega arith))))
 
 notes_pushed : (ns : List Node) (n : Node) → notes_of (ns ++ n ∷ []) ≡ notes_of ns ++ n.noted ∷ []
 notes_pushed [] n = refl
 notes_pushed (m ∷ ns) n = ap (λ (ms : List Noted). m.noted ∷ ms) (notes_pushed ns n)
 
-pub notes_added : (ns : List Node) (index : ℕ) (side : Bool) (noted : Noted) → IsEnd ns noted.thread index side → notes_of (added ns index side noted) ≡ replaced noted (notes_of ns)
+pub notes_added : (ns : List Node) (index : ℕ) (side : Bool) (noted : Noted) → IsEnd ns noted.thread index side → notes_of (added ns index side noted) ≡ with_access noted (notes_of ns)
 notes_added ns index side noted end =
     notes_pushed (linked_in ns index side (length ns)) (fresh noted)
     ∙ ap (λ (ms : List Noted). ms ++ noted ∷ []) (linked_notes ns index side (length ns))
-    ∙ replaced_last ns noted end.absent
+    ∙ with_access_last ns noted end.absent
 
 pub mapped_notes : {Y : Type 0} (f : Noted → Y) (ns : List Node) → map (λ (n : Node). f n.noted) ns ≡ map f (notes_of ns)
 mapped_notes f [] = refl

@@ -27,9 +27,9 @@ kept_in [] = []
 kept_in (e ∷ es) = kept_at (place_of e.0) e.1 ++ kept_in es
 
 -- Replaces the access of the same thread, or appends a new one.
-abbrev pub replaced : Noted → List Noted → List Noted
-replaced n [] = n ∷ []
-replaced n (m ∷ ms) = if m.thread == n.thread then n ∷ ms else m ∷ replaced n ms
+abbrev pub with_access : Noted → List Noted → List Noted
+with_access n [] = n ∷ []
+with_access n (m ∷ ms) = if m.thread == n.thread then n ∷ ms else m ∷ with_access n ms
 
 -- There is memory for one more non-main access.
 abbrev pub HasSpare : PlaceAccesses → Type 0
@@ -44,7 +44,7 @@ pub record IsMainNoted (n : Noted) (old new : PlaceAccesses) : Type 0 where
 -- A non-main access was recorded.
 pub record IsBesideNoted (n : Noted) (old new : PlaceAccesses) : Type 0 where
   pub main : new.main ≡ old.main
-  pub beside : new.beside.items ≡ replaced n old.beside.items
+  pub beside : new.beside.items ≡ with_access n old.beside.items
 
 abbrev pub IsNotedIn : Bool → Noted → PlaceAccesses → PlaceAccesses → Type 0
 IsNotedIn true n old new = IsMainNoted n old new

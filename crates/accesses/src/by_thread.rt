@@ -4,7 +4,7 @@
 ghost use Rattle.std.specs.Prelude.{◌≡◌, ◌<◌, ◌++◌, [], length, map, OnOk};
 ghost use Rattle.std.specs.Vec.{vec_len, vec_capacity};
 ghost use Rattle.accesses.specs.ByThread.{AreFound, IsSearched, linked_in, next_of, notes_of};
-ghost use Rattle.accesses.specs.Kept.{replaced};
+ghost use Rattle.accesses.specs.Kept.{with_access};
 ghost use Rattle.accesses.specs.Links.{link_from};
 ghost use Rattle.accesses.specs.declared.by_thread.Node.{Node as Visited};
 
@@ -84,7 +84,7 @@ impl ByThread {
     /// Records an access. It replaces the last one of its thread.
     pub fn note(&mut self, noted: Noted)
         requires { length self.old.items < self.old.capacity }
-        ensures { self.new.items ≡ replaced noted self.old.items }
+        ensures { self.new.items ≡ with_access noted self.old.items }
     {
         note_in(&mut self.nodes, noted);
     }
@@ -152,7 +152,7 @@ fn note_in(nodes: &mut Vec<Node>, noted: Noted)
     requires found { AreFound nodes.old.items }
     requires room { vec_len nodes.old < vec_capacity nodes.old }
     ensures found { AreFound nodes.new.items }
-    ensures noted { notes_of nodes.new.items ≡ replaced noted (notes_of nodes.old.items) }
+    ensures noted { notes_of nodes.new.items ≡ with_access noted (notes_of nodes.old.items) }
 {
     match find(nodes.as_slice(), noted.thread) {
         Search::At(index) => nodes[index].noted = noted,

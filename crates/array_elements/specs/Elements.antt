@@ -5,7 +5,7 @@ use Rattle.jvms_machine.specs.declared.value.Value.TheVariants as value
 use Rattle.array_elements.specs.declared.kind.Kind.{Kind}
 use Rattle.array_elements.specs.declared.kind.Kind.TheVariants as kind
 use Rattle.array_elements.specs.declared.elements.Elements.{Elements}
-use Rattle.array_elements.specs.declared.elements.Elements.TheVariants as held
+use Rattle.array_elements.specs.declared.elements.Elements.TheVariants as elements
 
 -- Returns the value of a reference that is stored as its number. Null is stored as 0.
 abbrev pub reference_value : ℕ → Value
@@ -13,21 +13,21 @@ reference_value zero = value.Null
 reference_value (suc r) = value.Reference (suc r)
 
 abbrev pub values_of : Elements → List Value
-values_of (held.Ints v) = map value.Int v.items
-values_of (held.Bytes v) = map value.Int v.items
-values_of (held.Booleans v) = map (λ n. value.Int (pos n)) v.items
-values_of (held.Chars v) = map (λ n. value.Int (pos n)) v.items
-values_of (held.Shorts v) = map value.Int v.items
-values_of (held.Longs v) = map value.Long v.items
-values_of (held.References v) = map reference_value v.items
-values_of (held.Nothing count) = replicate count value.Unset
+values_of (elements.Ints v) = map value.Int v.items
+values_of (elements.Bytes v) = map value.Int v.items
+values_of (elements.Booleans v) = map (λ n. value.Int (pos n)) v.items
+values_of (elements.Chars v) = map (λ n. value.Int (pos n)) v.items
+values_of (elements.Shorts v) = map value.Int v.items
+values_of (elements.Longs v) = map value.Long v.items
+values_of (elements.References v) = map reference_value v.items
+values_of (elements.Nothing count) = replicate count value.Unset
 
 abbrev pub elements_kind : Elements → Kind
-elements_kind (held.Ints v) = kind.Int
-elements_kind (held.Bytes v) = kind.Byte
-elements_kind (held.Booleans v) = kind.Boolean
-elements_kind (held.Chars v) = kind.Char
-elements_kind (held.Shorts v) = kind.Short
-elements_kind (held.Longs v) = kind.Long
-elements_kind (held.References v) = kind.Reference
-elements_kind (held.Nothing count) = kind.Nothing
+elements_kind (elements.Ints v) = kind.Int
+elements_kind (elements.Bytes v) = kind.Byte
+elements_kind (elements.Booleans v) = kind.Boolean
+elements_kind (elements.Chars v) = kind.Char
+elements_kind (elements.Shorts v) = kind.Short
+elements_kind (elements.Longs v) = kind.Long
+elements_kind (elements.References v) = kind.Reference
+elements_kind (elements.Nothing count) = kind.Nothing

@@ -18,6 +18,6 @@ Assembles view asked (Ok v) new = asked ≡ Ok (view v, new)
 Assembles view asked (Err e) new = Answers (Err e) asked
 
 -- Returns an optional value as a list.
-abbrev pub listed : {A : Type 0} → Option A → List A
-listed None = []
-listed (Some a) = a ∷ []
+abbrev pub list_of : {A : Type 0} → Option A → List A
+list_of None = []
+list_of (Some a) = a ∷ []

@@ -4,7 +4,7 @@ ghost use Rattle.std.specs.Prelude.{◌≡◌, IfOk};
 ghost use Rattle.jvms_program.specs.Meaning.{meaning};
 ghost use Rattle.jasmin.specs.Denote.{denote};
 ghost use Rattle.assembly.specs.Faults.{Answers};
-ghost use Rattle.assembly.specs.Assembled.{assembled};
+ghost use Rattle.assembly.specs.Assembled.{class_file_of};
 
 use crate::class::class_of;
 use assembly::fault::AsmFault;
@@ -23,7 +23,7 @@ use std::alloc::Global;
 #[tactic(auto, using(crate::proofs::Spelled::has_spelling, crate::proofs::Spelled::means_its_source))]
 pub fn assemble(alloc: Global, source: &Source) -> Result<ClassFile, AsmFault>
     // The result is the class file, entry by entry and byte by byte, or the first fault, unless memory runs out.
-    ensures exact { Answers result (assembled source.now) }
+    ensures exact { Answers result (class_file_of source.now) }
     // The class file means what the source denotes.
     ensures means { IfOk result (λ c. meaning c ≡ denote source.now) }
 {

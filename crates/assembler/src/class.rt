@@ -5,7 +5,7 @@ ghost use Rattle.std.specs.List.{list_any};
 ghost use Rattle.jasmin.specs.Assembling.{is_too_many, has_too_many};
 ghost use Rattle.pool_entries.specs.Entries.{AreProper};
 ghost use Rattle.assembly.specs.Faults.{Answers};
-ghost use Rattle.assembly.specs.Assembled.{assembled};
+ghost use Rattle.assembly.specs.Assembled.{class_file_of};
 
 use crate::fields::fields_of;
 use crate::methods::methods_of;
@@ -59,9 +59,9 @@ fn has_too_many(source: &Source) -> bool
 /// # Errors
 ///
 /// Returns the first fault of the source, or `Memory` if memory ran out.
-#[tactic(auto, unfolding(assembly::specs::Assembled::assembled))]
+#[tactic(auto, unfolding(assembly::specs::Assembled::class_file_of))]
 pub(crate) fn class_of(alloc: Global, source: &Source) -> Result<ClassFile, AsmFault>
-    ensures exact { Answers result (assembled source.now) }
+    ensures exact { Answers result (class_file_of source.now) }
     ensures proper { IfOk result (λ c. AreProper c.pool) }
 {
     if has_too_many(source) {

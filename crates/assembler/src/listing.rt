@@ -1,7 +1,7 @@
 //! Lists the attributes that a member has.
 
 ghost use Rattle.std.specs.Prelude.{◌≡◌, ◌++◌, IfOk, OnOk};
-ghost use Rattle.assembler.specs.Steps.{listed};
+ghost use Rattle.assembler.specs.Steps.{list_of};
 
 use jvms_file::class_file::MethodAttribute;
 use shared_data::items::Items;
@@ -12,7 +12,7 @@ fn push(
     attributes: &mut Items<MethodAttribute>,
     attribute: Option<MethodAttribute>,
 ) -> Result<(), AllocError>
-    ensures { OnOk result (attributes.new ≡ attributes.old ++ listed attribute) }
+    ensures { OnOk result (attributes.new ≡ attributes.old ++ list_of attribute) }
 {
     match attribute {
         None => Ok(()),
@@ -26,7 +26,7 @@ pub(crate) fn attributes_of(
     code: Option<MethodAttribute>,
     throws: Option<MethodAttribute>,
 ) -> Result<Items<MethodAttribute>, AllocError>
-    ensures { IfOk result (λ attributes. attributes ≡ listed code ++ listed throws) }
+    ensures { IfOk result (λ attributes. attributes ≡ list_of code ++ list_of throws) }
 {
     let mut attributes = Items::new(alloc);
     push(&mut attributes, code)?;

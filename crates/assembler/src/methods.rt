@@ -6,8 +6,8 @@ ghost use Rattle.jvms_file.specs.Results.{want};
 ghost use Rattle.jasmin.specs.Assembling.{repeats_label};
 ghost use Rattle.assembly.specs.declared.fault.AsmFault.TheVariants as fault;
 ghost use Rattle.assembly.specs.Faults.{Answers};
-ghost use Rattle.assembly.specs.Assembled.{labels_judged, code_attribute, code_attributes, method_info, methods_onto};
-ghost use Rattle.assembler.specs.Steps.{Assembles, listed};
+ghost use Rattle.assembly.specs.Assembled.{judge_labels, code_attribute, code_attributes, method_info, methods_onto};
+ghost use Rattle.assembler.specs.Steps.{Assembles, list_of};
 
 use crate::catches::catches_of;
 use crate::listing::attributes_of;
@@ -46,11 +46,11 @@ fn labels_of<'s>(alloc: Global, code: &'s [CodeItem]) -> Result<Labels<'s>, AsmF
 /// # Errors
 ///
 /// Returns `RepeatedLabel`, `UndefinedLabel` or `CatchRange` if they aren't, or `Memory` if memory ran out.
-#[tactic(auto, unfolding(assembly::specs::Assembled::labels_judged))]
+#[tactic(auto, unfolding(assembly::specs::Assembled::judge_labels))]
 fn judged_labels<'s>(alloc: Global, method: &'s MethodLines) -> Result<Labels<'s>, AsmFault>
     ensures same { IfOk result (λ labels. labels ≡ method.now.code) }
-    ensures judged { MatchResult result (λ _. labels_judged method.now ≡ Ok tt)
-        (λ e. Answers (Err e) (labels_judged method.now)) }
+    ensures judged { MatchResult result (λ _. judge_labels method.now ≡ Ok tt)
+        (λ e. Answers (Err e) (judge_labels method.now)) }
 {
     let labels = labels_of(alloc, method.code.as_slice())?;
     if has_undefined_label(method, &labels) {
@@ -96,7 +96,7 @@ fn code_if_any(
     labels: &Labels<'_>,
 ) -> Result<Option<MethodAttribute>, AsmFault>
     requires { labels.now ≡ method.now.code }
-    ensures { Assembles listed (code_attributes (pool_of entries.old) method.now) result
+    ensures { Assembles list_of (code_attributes (pool_of entries.old) method.now) result
         (pool_of entries.new) }
 {
     if !has_code(method) {

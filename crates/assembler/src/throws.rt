@@ -4,7 +4,7 @@ ghost use Rattle.std.specs.Prelude.{[]};
 ghost use Rattle.const_pool.specs.Interning.{pool_of};
 ghost use Rattle.assembly.specs.Operands.{classes_onto};
 ghost use Rattle.assembly.specs.Assembled.{throws_attributes};
-ghost use Rattle.assembler.specs.Steps.{Enters, listed};
+ghost use Rattle.assembler.specs.Steps.{Enters, list_of};
 
 use class_file::EXCEPTIONS;
 use jvms_file::class_file::MethodAttribute;
@@ -37,7 +37,7 @@ pub(crate) fn throws_attribute(
     entries: &mut Entries,
     throws: &[Text],
 ) -> Result<Option<MethodAttribute>, EntryFault>
-    ensures { Enters listed (throws_attributes (pool_of entries.old) throws.now) result
+    ensures { Enters list_of (throws_attributes (pool_of entries.old) throws.now) result
         (pool_of entries.new) }
 {
     if let [] = throws {

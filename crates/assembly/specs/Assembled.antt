@@ -24,7 +24,7 @@ use Rattle.pool_entries.specs.declared.fault.EntryFault.{EntryFault}
 use Rattle.pool_entries.specs.Entries.{text_entry, class_entry, string_entry, integer_entry, long_entry}
 use Rattle.assembly.specs.declared.fault.AsmFault.{AsmFault}
 use Rattle.assembly.specs.declared.fault.AsmFault.TheVariants as fault
-use Rattle.assembly.specs.Faults.{numbered}
+use Rattle.assembly.specs.Faults.{with_source_fault}
 use Rattle.assembly.specs.Operands.{operands_onto, catches_onto, classes_onto}
 use Rattle.assembly.specs.CodeOf.{code_within}
 
@@ -61,8 +61,8 @@ fields_onto seen pool (f ∷ fs) = do
 
 -- Judges the labels of a method. Each is defined once. Each that is referred to marks an instruction, or the code's end
 -- if it ends a range. Each range contains an instruction.
-unfoldable pub labels_judged : MethodLines → Result (Unit {0}) AsmFault
-labels_judged m = do
+unfoldable pub judge_labels : MethodLines → Result (Unit {0}) AsmFault
+judge_labels m = do
   _ ← want (not (repeats_label m.code)) fault.RepeatedLabel
   _ ← want (not (has_undefined_label m)) fault.UndefinedLabel
   want (not (has_bad_range m)) fault.CatchRange
@@ -70,9 +70,9 @@ labels_judged m = do
 -- Returns the Code attribute of a method (JVMS 4.7.3).
 unfoldable pub code_attribute : List Constant → MethodLines → Result (MethodAttribute × List Constant) AsmFault
 code_attribute pool m = do
-  name ← numbered (text_entry pool (codes "Code"))
-  operands ← numbered (operands_onto [] name.1 m.code)
-  caught ← numbered (catches_onto [] operands.1 m.catches)
+  name ← with_source_fault (text_entry pool (codes "Code"))
+  operands ← with_source_fault (operands_onto [] name.1 m.code)
+  caught ← with_source_fault (catches_onto [] operands.1 m.catches)
   code ← code_within operands.0 caught.0 m
   Ok (method_attribute.Code name.0 code, caught.1)
 
@@ -94,11 +94,11 @@ throws_attributes pool (class ∷ classes) = do
 -- Returns the info of a method. Its Code attribute precedes its Exceptions attribute.
 unfoldable pub method_info : List Constant → MethodLines → Result (MethodInfo × List Constant) AsmFault
 method_info pool m = do
-  _ ← labels_judged m
-  name ← numbered (text_entry pool m.name)
-  descriptor ← numbered (text_entry name.1 m.descriptor)
+  _ ← judge_labels m
+  name ← with_source_fault (text_entry pool m.name)
+  descriptor ← with_source_fault (text_entry name.1 m.descriptor)
   code ← code_attributes descriptor.1 m
-  throws ← numbered (throws_attributes code.1 m.throws)
+  throws ← with_source_fault (throws_attributes code.1 m.throws)
   Ok (record { access = m.access; name = name.0; descriptor = descriptor.0; attributes = code.0 ++ throws.0 }, throws.1)
 
 unfoldable pub methods_onto : List MethodInfo → List Constant → List MethodLines → Result (List MethodInfo × List Constant) AsmFault
@@ -109,12 +109,12 @@ methods_onto seen pool (m ∷ ms) = do
 
 -- ---- The class
 
-unfoldable pub assembled : Source → Result ClassFile AsmFault
-assembled s = do
+unfoldable pub class_file_of : Source → Result ClassFile AsmFault
+class_file_of s = do
   _ ← want (not (has_too_many s)) fault.TooMany
-  this_class ← numbered (class_entry [] s.name)
-  super_class ← numbered (class_entry this_class.1 s.superclass)
-  interfaces ← numbered (classes_onto [] super_class.1 s.interfaces)
-  fields ← numbered (fields_onto [] interfaces.1 s.fields)
+  this_class ← with_source_fault (class_entry [] s.name)
+  super_class ← with_source_fault (class_entry this_class.1 s.superclass)
+  interfaces ← with_source_fault (classes_onto [] super_class.1 s.interfaces)
+  fields ← with_source_fault (fields_onto [] interfaces.1 s.fields)
   methods ← methods_onto [] fields.1 s.methods
   Ok (record { minor = 0; major = 49; pool = methods.1; access = s.access; this_class = this_class.0; super_class = super_class.0; interfaces = interfaces.0; fields = fields.0; methods = methods.0; attributes = [] })

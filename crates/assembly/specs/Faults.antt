@@ -12,9 +12,9 @@ fault_of entry_fault.PoolFull = fault.PoolFull
 fault_of entry_fault.Memory = fault.Memory
 
 -- Returns the result with the entry's fault mapped to that of a source.
-abbrev pub numbered : {A : Type 0} → Result A EntryFault → Result A AsmFault
-numbered (Ok a) = Ok a
-numbered (Err e) = Err (fault_of e)
+abbrev pub with_source_fault : {A : Type 0} → Result A EntryFault → Result A AsmFault
+with_source_fault (Ok a) = Ok a
+with_source_fault (Err e) = Err (fault_of e)
 
 -- The fault is that of the definition. If memory ran out, it states nothing about the definition.
 abbrev pub Fails : {A : Type 0} → AsmFault → Result A AsmFault → Type 0

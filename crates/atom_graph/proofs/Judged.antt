@@ -18,10 +18,10 @@ use Rattle.atom_order.proofs.Reached.{kept_atomic, kept_order}
 use Rattle.accesses.specs.Accesses.{Last}
 use Rattle.accesses.specs.Rooms.{kept_of}
 use Rattle.atom_graph.specs.declared.found.Found.{Found}
-use Rattle.atom_graph.specs.declared.walked.StoredTrace.{StoredTrace}
+use Rattle.atom_graph.specs.declared.stored_trace.StoredTrace.{StoredTrace}
 use Rattle.atom_graph.specs.declared.watch.Watch.{Watch}
 use Rattle.atom_graph.specs.Checked.{IsChecker}
-use Rattle.atom_graph.specs.Checking.{walk_of}
+use Rattle.atom_graph.specs.Checking.{state_of_fed}
 use Rattle.atom_graph.specs.Reduced.{IsShown}
 use Rattle.atom_graph.specs.StoredTrace.{fed_of}
 use Rattle.atom_graph.specs.Watched.{IsFoundIn, IsGraphOf, IsWatched}
@@ -46,35 +46,35 @@ graph_verdict w s kept order is g = (graph_atomic w s kept g, graph_order w s ke
 
 module _ (a : StoredTrace) (v : Watch) (is : IsChecker a v) where
   abbrev w : TraceState
-  w = walk_of (fed_of a)
+  w = state_of_fed (fed_of a)
 
   -- What the search has stored, when no cycle or one was found.
-  pub watched_none : v.found ≡ None → IsGraphOf (walk_of (fed_of a)) v.reduced.graph (kept_of v.reduced.accesses)
+  pub watched_none : v.found ≡ None → IsGraphOf (state_of_fed (fed_of a)) v.reduced.graph (kept_of v.reduced.accesses)
   watched_none none = subst (λ (o : Option Found). IsWatched w v.reduced o) none is.watched
 
-  pub watched_some : (f : Found) → v.found ≡ Some f → IsFoundIn (walk_of (fed_of a)).events f
+  pub watched_some : (f : Found) → v.found ≡ Some f → IsFoundIn (state_of_fed (fed_of a)).events f
   watched_some f some = subst (λ (o : Option Found). IsWatched w v.reduced o) some is.watched
 
-  pub live_counted : AreAtomic (walk_of (fed_of a)).events → AreReached (walk_of (fed_of a)) (length v.reduced.graph.live)
+  pub live_counted : AreAtomic (state_of_fed (fed_of a)).events → AreReached (state_of_fed (fed_of a)) (length v.reduced.graph.live)
   live_counted atomic = by v.found is.watched
     where
       by : (o : Option Found) → IsWatched w v.reduced o → AreReached w (length v.reduced.graph.live)
       by None g = lived_reached w v.reduced.graph g.keeps g.opens
       by (Some f) found = let cycle = found_cycle w f found in absurd (atomic cycle.0 cycle.1)
 
-  order_asked : (order : List ℕ) → v.found ≡ None → order ≡ v.reduced.graph.dropped ++ v.reduced.graph.live → IsOrderOf a.courses.lines a.items.items a.transactions.items order
+  order_asked : (order : List ℕ) → v.found ≡ None → order ≡ v.reduced.graph.dropped ++ v.reduced.graph.live → IsOrderOf a.threads.lines a.items.items a.transactions.items order
   order_asked order none are = record {
-    of_events = is.walked.transactions;
+    of_events = is.trace.transactions;
     is_order = graph_order w v.reduced.graph (kept_of v.reduced.accesses) order are (watched_none none);
   }
 
   pub serial_asked : (order : List ℕ) → v.found ≡ None → order ≡ v.reduced.graph.dropped ++ v.reduced.graph.live → HasItems a.transactions.items order
-  serial_asked order none are = (a.courses.lines, a.items.items, order_asked order none are)
+  serial_asked order none are = (a.threads.lines, a.items.items, order_asked order none are)
 
   pub serial_some : (order numbers : List ℕ) → v.found ≡ None → order ≡ v.reduced.graph.dropped ++ v.reduced.graph.live → AreSerialOf a.transactions.items order numbers
-      → AreAtomic (walk_of (fed_of a)).events × IsSerial (walk_of (fed_of a)).events numbers
+      → AreAtomic (state_of_fed (fed_of a)).events × IsSerial (state_of_fed (fed_of a)).events numbers
   serial_some order numbers none are serial =
-      (graph_atomic w v.reduced.graph (kept_of v.reduced.accesses) (watched_none none), serial a.courses.lines a.items.items (order_asked order none are))
+      (graph_atomic w v.reduced.graph (kept_of v.reduced.accesses) (watched_none none), serial a.threads.lines a.items.items (order_asked order none are))
 
   -- The cycle, if one was found.
   pub some_found : is_some v.found ≡ true → (f : Found) × (v.found ≡ Some f)
@@ -91,7 +91,7 @@ module _ (a : StoredTrace) (v : Watch) (is : IsChecker a v) where
       by None is h = is
       by (Some f) is h = absurd (true≢false h)
 
-  pub serial_none : (f : Found) → v.found ≡ Some f → ((ts : List ℕ) × IsCycle (walk_of (fed_of a)).events ts) × ((numbers : List ℕ) → IsRearrangement (walk_of (fed_of a)).events numbers → ⊥)
+  pub serial_none : (f : Found) → v.found ≡ Some f → ((ts : List ℕ) × IsCycle (state_of_fed (fed_of a)).events ts) × ((numbers : List ℕ) → IsRearrangement (state_of_fed (fed_of a)).events numbers → ⊥)
   serial_none f some =
       let cycle = found_cycle w f (watched_some f some) in
-      (cycle, λ numbers r. cycle_has_no_rearrangement a.courses.lines a.items.items cycle.0 numbers cycle.1 r)
+      (cycle, λ numbers r. cycle_has_no_rearrangement a.threads.lines a.items.items cycle.0 numbers cycle.1 r)

@@ -8,4 +8,4 @@ pub mod Places
 pub mod Steps
 pub mod Suffices
 pub mod Watching
-pub mod Standings
+pub mod Positions

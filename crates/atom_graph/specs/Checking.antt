@@ -2,7 +2,7 @@
 use Rattle.std.specs.Prelude.{◌≡◌, not, ◌&&◌, nat_le, if◌then◌else◌, List, [], ◌∷◌, ◌++◌, length, Option, Some, None, Result, Ok, Err}
 use Rattle.jvms_machine.specs.declared.trace.Item.{Item}
 use Rattle.velodrome.specs.Specification.{Specification}
-use Rattle.velodrome.specs.Transactions.{TraceState, walk, is_event, is_matched}
+use Rattle.velodrome.specs.Transactions.{TraceState, trace_state_of, is_event, is_matched}
 use Rattle.atom_graph.specs.declared.fault.FeedFault.{FeedFault}
 use Rattle.atom_graph.specs.declared.fault.FeedFault.TheVariants as fault
 
@@ -11,8 +11,8 @@ pub record Fed : Type 0 where
   pub lines : Specification
   pub items : List Item
 
-abbrev pub walk_of : Fed → TraceState
-walk_of fed = walk fed.lines fed.items
+abbrev pub state_of_fed : Fed → TraceState
+state_of_fed fed = trace_state_of fed.lines fed.items
 
 abbrev pub with_item : Item → Fed → Fed
 with_item i fed = record { lines = fed.lines; items = fed.items ++ i ∷ [] }
@@ -21,8 +21,8 @@ with_item i fed = record { lines = fed.lines; items = fed.items ++ i ∷ [] }
 -- past 100,000,000 (own).
 abbrev pub fault_of : Fed → Item → Option FeedFault
 fault_of fed i =
-    if not (is_matched (walk_of fed) i) then Some fault.Unmatched
-    else if is_event i && nat_le 100000000 (length (walk_of fed).events) then Some fault.TooMany
+    if not (is_matched (state_of_fed fed) i) then Some fault.Unmatched
+    else if is_event i && nat_le 100000000 (length (state_of_fed fed).events) then Some fault.TooMany
     else None
 
 -- An item is accepted if and only if it has no fault, unless memory runs out. A refused item changes nothing.

@@ -9,13 +9,13 @@ ghost use Rattle.velodrome.specs.Specification.{is_atomic};
 ghost use Rattle.velodrome.specs.Transactions.{is_event};
 ghost use Rattle.velodrome.specs.Verdicts.{IsVerdict};
 ghost use Rattle.jvms_machine.specs.declared.trace.Item.TheVariants.{Enter, Exit};
-ghost use Rattle.atom_graph.specs.Checking.{IsFeeding, walk_of};
+ghost use Rattle.atom_graph.specs.Checking.{IsFeeding, state_of_fed};
 
 use crate::copies::copied_method;
 use crate::counts::Counts;
 use crate::fault::FeedFault;
 use crate::stay::Stay;
-use crate::walked::StoredTrace;
+use crate::stored_trace::StoredTrace;
 use crate::watch::Watch;
 use accesses::hash_of_touched;
 use atom_spec::Spec;
@@ -34,7 +34,7 @@ const MOST_EVENTS: usize = 100_000_000;
 /// A checker of atomicity. Contracts see the lines of the specification and the items that it was fed.
 #[derive(Drop)]
 pub struct Checker {
-    walked: StoredTrace,
+    trace: StoredTrace,
     watch: Watch,
 }
 
@@ -45,9 +45,9 @@ impl Model for Checker {
 
     ghost Value = { Fed };
 
-    ghost view = { λ c. fed_of c.walked };
+    ghost view = { λ c. fed_of c.trace };
 
-    ghost invariant = { λ c. IsChecker c.walked c.watch };
+    ghost invariant = { λ c. IsChecker c.trace c.watch };
 }
 
 impl Checker {
@@ -56,8 +56,8 @@ impl Checker {
         ensures { IfOk result (λ c. c ≡ record { lines = spec; items = [] }) }
     {
         let watch = Watch::new(alloc)?;
-        let walked = StoredTrace::new(alloc, spec);
-        Ok(Checker { walked, watch })
+        let trace = StoredTrace::new(alloc, spec);
+        Ok(Checker { trace, watch })
     }
 
     /// Feeds the next item. If it is refused nothing changes.
@@ -87,8 +87,8 @@ impl Checker {
         ensures { IsFeeding self.old item.now result self.new }
     {
         let key = copied_method(method)?;
-        let copy = self.walked.prepare(thread, hash_of_touched(item), item)?;
-        self.walked.entered(thread, key, copy);
+        let copy = self.trace.prepare(thread, hash_of_touched(item), item)?;
+        self.trace.entered(thread, key, copy);
         Ok(())
     }
 
@@ -97,13 +97,13 @@ impl Checker {
         requires { item.now ≡ Exit thread method.now }
         ensures { IsFeeding self.old item.now result self.new }
     {
-        if !self.walked.courses.is_innermost(thread, method) {
+        if !self.trace.threads.is_innermost(thread, method) {
             return Err(FeedFault::Unmatched);
         }
-        let copy = self.walked.prepare_exit(hash_of_touched(item), item)?;
-        let over = self.walked.over(thread);
+        let copy = self.trace.prepare_exit(hash_of_touched(item), item)?;
+        let over = self.trace.over(thread);
         self.watch.leave(over)?;
-        self.walked.exited(thread, copy);
+        self.trace.exited(thread, copy);
         Ok(())
     }
 
@@ -113,28 +113,28 @@ impl Checker {
         requires event { is_event item.now ≡ true }
         ensures { IsFeeding self.old item.now result self.new }
     {
-        let events = self.walked.transactions.len();
+        let events = self.trace.transactions.len();
         if events >= MOST_EVENTS {
             return Err(FeedFault::TooMany);
         }
-        let sum = hash_of_touched(item);
-        let (standing, copy) = self.walked.prepare_event(thread, sum, item)?;
-        let transaction = self.walked.next(standing.transaction);
-        let stay = Stay::of(standing.transaction, standing.is_in_atomic);
+        let hash = hash_of_touched(item);
+        let (position, copy) = self.trace.prepare_event(thread, hash, item)?;
+        let transaction = self.trace.next(position.transaction);
+        let stay = Stay::of(position.transaction, position.is_in_atomic);
         self.watch
-            .event(events as u64 + 1, transaction, stay, sum, item)?;
-        self.walked.happened(thread, standing, transaction, copy);
+            .event(events as u64 + 1, transaction, stay, hash, item)?;
+        self.trace.happened(thread, position, transaction, copy);
         Ok(())
     }
 
     /// Returns the number of events and of transactions so far.
     pub fn counts(&self) -> Counts
-        ensures events { result.events ≡ length (walk_of self.now).events }
-        ensures transactions { result.transactions ≡ (walk_of self.now).transactions }
+        ensures events { result.events ≡ length (state_of_fed self.now).events }
+        ensures transactions { result.transactions ≡ (state_of_fed self.now).transactions }
     {
         Counts {
-            events: self.walked.transactions.len() as u64,
-            transactions: self.walked.begun,
+            events: self.trace.transactions.len() as u64,
+            transactions: self.trace.begun,
         }
     }
 
@@ -142,33 +142,34 @@ impl Checker {
     pub fn items(&self) -> &[Shared<Item>]
         ensures { result.now ≡ self.now.items }
     {
-        self.walked.items.as_slice()
+        self.trace.items.as_slice()
     }
 
     /// Returns the number of the transaction of each event, in the order of the events.
     pub fn transactions(&self) -> &[u64]
-        ensures { result.now ≡ map (λ e. e.transaction) (walk_of self.now).events }
+        ensures { result.now ≡ map (λ e. e.transaction) (state_of_fed self.now).events }
     {
-        self.walked.transactions.as_slice()
+        self.trace.transactions.as_slice()
     }
 
     /// Decides whether the specification calls a method atomic.
     pub fn is_atomic(&self, method: &MethodKey) -> bool
         ensures { result ≡ is_atomic self.now.lines method.now }
     {
-        self.walked.courses.is_atomic(method)
+        self.trace.threads.is_atomic(method)
     }
 
     /// Returns the number of transactions that open ones reach, as long as there is no cycle.
     pub fn live(&self) -> u64
-        ensures { AreAtomic (walk_of self.now).events → AreReached (walk_of self.now) result }
+        ensures { AreAtomic (state_of_fed self.now).events
+            → AreReached (state_of_fed self.now) result }
     {
         self.watch.reduced.graph.live().len() as u64
     }
 
     /// Returns the verdict: an order of the transactions if the trace is atomic, else its first cycle.
     pub fn verdict(&self) -> Result<Verdict, AllocError>
-        ensures { IfOk result (IsVerdict (walk_of self.now)) }
+        ensures { IfOk result (IsVerdict (state_of_fed self.now)) }
     {
         match &self.watch.found {
             Some(found) => found.verdict(self.watch.alloc),
@@ -181,9 +182,10 @@ impl Checker {
     /// Returns the events in a serial order, or `None` if there is a cycle.
     pub fn serial(&self) -> Result<Option<Vec<u64>>, AllocError>
         ensures { IfOk result
-            (λ o. MatchOption o (((ts : List ℕ) × IsCycle (walk_of self.now).events ts)
-            × ((numbers : List ℕ) → IsRearrangement (walk_of self.now).events numbers → ⊥)) (λ v.
-            AreAtomic (walk_of self.now).events × IsSerial (walk_of self.now).events v.items)) }
+            (λ o. MatchOption o (((ts : List ℕ) × IsCycle (state_of_fed self.now).events ts)
+            × ((numbers : List ℕ) → IsRearrangement (state_of_fed self.now).events numbers → ⊥))
+            (λ v. AreAtomic (state_of_fed self.now).events
+            × IsSerial (state_of_fed self.now).events v.items)) }
     {
         if self.watch.found.is_some() {
             return Ok(None);
@@ -192,7 +194,7 @@ impl Checker {
         let order = self.watch.reduced.order(alloc)?;
         let numbers = serial_order::serial(
             alloc,
-            self.walked.transactions.as_slice(),
+            self.trace.transactions.as_slice(),
             order.as_slice(),
         )?;
         Ok(Some(Vec::from_slice(alloc, numbers.as_slice())?))

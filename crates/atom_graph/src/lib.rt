@@ -7,10 +7,10 @@ mod copies;
 mod counts;
 mod fault;
 mod found;
+mod item_cache;
 mod reduced;
-mod repeats;
 mod stay;
-mod walked;
+mod stored_trace;
 mod watch;
 
 pub use checker::Checker;

@@ -41,7 +41,7 @@ impl Reduced {
         number: u64,
         transaction: u64,
         stay: Stay,
-        sum: u32,
+        hash: u32,
         item: &Item,
     ) -> Result<Option<Found>, AllocError>
         requires { IsReady stay transaction self.old.graph }
@@ -50,7 +50,7 @@ impl Reduced {
             (λ f. IsClosedBy number transaction item.now self.old f)) }
         ensures err { OnErr result (IsLike self.old self.new) }
     {
-        self.accesses.reserve(sum, item)?;
+        self.accesses.reserve(hash, item)?;
         self.accesses.ready_links(number, item, &mut self.links)?;
         let live = self.graph.live_links(transaction, self.links.as_slice())?;
         match grow(&mut self.graph, transaction, stay, live)? {

@@ -39,7 +39,7 @@ impl Watch {
         number: u64,
         transaction: u64,
         stay: Stay,
-        sum: u32,
+        hash: u32,
         item: &Item,
     ) -> Result<(), AllocError>
         requires { self.old.found ≡ None → IsReady stay transaction self.old.reduced.graph }
@@ -51,7 +51,7 @@ impl Watch {
         }
         match self
             .reduced
-            .event(self.alloc, number, transaction, stay, sum, item)?
+            .event(self.alloc, number, transaction, stay, hash, item)?
         {
             None => Ok(()),
             Some(found) => {

@@ -203,7 +203,7 @@ module _ (events : List Event) (n : ℕ) (s : Shape) (f : Event) (links : List L
 
   held_left : (l : Link) → IsIn l links → IsLeft f.transaction (λ x. is_among x (s.live ++ f.transaction ∷ [])) with_event
   held_left l h =
-      all_left with_event.is_open with_event.into s.live t [] event_forward new_apart kept_event.held kept_event.opens s.dropped l
+      all_left with_event.is_open with_event.into s.live t [] event_forward new_apart kept_event.live kept_event.opens s.dropped l
       (subst (IsIn l) (sym (chosen t t links (into_in s t) refl)) h) (in_left l.from s.live (t ∷ []) (from_live l h))
 
   abbrev begun_held : Order
@@ -239,7 +239,7 @@ module _ (events : List Event) (n : ℕ) (s : Shape) (f : Event) (links : List L
   loose_left none = record {
     closed = λ y l stands g _. closed y l (in_cases y s.live (f.transaction ∷ []) stands) g;
     opens = λ y is. among_from_in y s.live (k.opens y (opens y (cases_eq y f.transaction) is));
-    held = λ y _ is. held y (in_from_among y s.live is) (k.held y (in_from_among y s.live is));
+    live = λ y _ is. held y (in_from_among y s.live is) (k.live y (in_from_among y s.live is));
   }
     where
       closed : (y : ℕ) (l : Link) → IsIn y s.live ⊎ IsIn y (f.transaction ∷ []) → IsIn l (cond (y == f.transaction) links (into_in s y)) → is_among y s.live ≡ true

@@ -40,11 +40,11 @@ module _ (dropped : List ℕ) (opens : List Bool) (into : List (List Link)) (t :
       let marks = gone (front ++ t ∷ behind) (t ∷ behind) in
       record {
         keeps = λ x. is_among x (front ++ t ∷ behind) && not (is_among x marks);
-        left = unheld_left f g front t behind usable.leads apart usable.held usable.opens dropped;
+        left = unheld_left f g front t behind usable.leads apart usable.live usable.opens dropped;
         dropped = to_dropped ∙ ap (λ l. dropped ++ l) (filter_same (λ x. has_key keys x) (λ x. is_among x marks) (t ∷ behind) (λ x _. has x)
-            ∙ sym (gone_filter f g front t behind usable.leads apart usable.held usable.opens));
+            ∙ sym (gone_filter f g front t behind usable.leads apart usable.live usable.opens));
         live = to_live ∙ ap (λ l. front ++ l) (filter_same (λ x. not (has_key keys x)) (λ x. not (is_among x marks)) (t ∷ behind) (λ x _. ap not (has x)))
-            ∙ sym (kept_filter f g front t behind usable.leads apart usable.held usable.opens);
+            ∙ sym (kept_filter f g front t behind usable.leads apart usable.live usable.opens);
         is_open = to_open;
         into = λ y is. to_into y (others y is);
         slots = slots;
@@ -78,7 +78,7 @@ module _ (dropped : List ℕ) (opens : List Bool) (into : List (List Link)) (t :
       let all = front ++ t ∷ behind in
       record {
         keeps = λ x. is_among x all;
-        left = all_left (λ y. get_or opens y false) (λ y. get_or into y []) front t behind usable.leads (distinct_pairs all usable.distinct) usable.held usable.opens dropped link stands from;
+        left = all_left (λ y. get_or opens y false) (λ y. get_or into y []) front t behind usable.leads (distinct_pairs all usable.distinct) usable.live usable.opens dropped link stands from;
         dropped = to_dropped ∙ sym (append-nil dropped) ∙ ap (λ l. dropped ++ l) (sym (filter_none (λ x. not (is_among x all)) all (λ x h. ap not (among_from_in x all h))));
         live = to_live ∙ sym (filter_all (λ x. is_among x all) all (λ x h. among_from_in x all h));
         is_open = to_open;

@@ -136,7 +136,7 @@ module _ (events : List Event) (n : ℕ) (o : Order) (k : IsKept events n o) whe
         (pairs_joined (NotBack events) all (t ∷ []) (order_pairs events all k.ordered) (tt, tt) across));
     placed = λ e h. subst (IsIn e.transaction) regrouped (in_left e.transaction all (t ∷ []) (k.placed e h));
     opens = λ y is. opens y is (cases_eq y t);
-    held = λ y h. held y (in_cases y o.live (t ∷ []) h);
+    live = λ y h. held y (in_cases y o.live (t ∷ []) h);
     ties = λ y l h g. ties y l (in_cases y o.live (t ∷ []) h) g;
     covers = λ a b h d. covers a b d (in_cases a o.live (t ∷ []) h);
   }
@@ -150,7 +150,7 @@ module _ (events : List Event) (n : ℕ) (o : Order) (k : IsKept events n o) whe
       opens y is (inr other) = grows y (k.opens y (sym (passed_by y t true (o.is_open y) other) ∙ is))
 
       held : (y : ℕ) → IsIn y o.live ⊎ IsIn y (t ∷ []) → IsKeptLive (o.live ++ t ∷ []) (λ y. cond (y == t) true (o.is_open y)) (λ y. cond (y == t) [] (o.into y)) y
-      held y (inl h) = elim (k.held y h) [
+      held y (inl h) = elim (k.live y h) [
         | inl is ↦ inl (passed_by y t true (o.is_open y) (not_new y h) ∙ is)
         | inr link ↦ inr (link.0, subst (IsIn link.0) (sym (into_old y h)) link.1, grows link.0.from link.2)
       ]
@@ -292,7 +292,7 @@ module _ (events : List Event) (n : ℕ) (o : Order) (f : Event) (links : List L
     ordered = ordered_now;
     placed = λ e h. places e (in_cases e events (f ∷ []) h);
     opens = λ y is. spreads y (k.opens y is);
-    held = λ y h. let old = k.held y (sides_in P y o.live h) in elim old [
+    live = λ y h. let old = k.live y (sides_in P y o.live h) in elim old [
       | inl is ↦ inl is
       | inr link ↦ inr (link.0, gains y link.0 (sides_in P y o.live h) link.1, spreads link.0.from link.2)
     ];
@@ -357,7 +357,7 @@ module _ (events : List Event) (n : ℕ) (o : Order) (c : ℕ) (P : ℕ → Bool
         (λ x y h g p q d. both_ways (P x) p (k.covers y x g d P left.closed q))));
     placed = λ e h. subst (IsIn e.transaction) apart_now (in_both_sides P o.dropped o.live e.transaction (k.placed e h));
     opens = λ y is. in_filter P y o.live (left.opens y is) (k.opens y (was_open (y == c) (o.is_open y) is));
-    held = λ y h. let inside = filter_in P y o.live h in elim (left.held y inside.0 inside.1) [
+    live = λ y h. let inside = filter_in P y o.live h in elim (left.live y inside.0 inside.1) [
       | inl is ↦ inl is
       | inr link ↦ inr (link.0, link.1, in_filter P link.0.from o.live link.3 link.2)
     ];

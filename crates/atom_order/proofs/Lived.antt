@@ -23,7 +23,7 @@ nothing_kept = record {
   ordered = tt;
   placed = λ e h. absurd h;
   opens = λ y is. absurd (none_open y is);
-  held = λ y h. absurd h;
+  live = λ y h. absurd h;
   ties = λ y l h g. absurd h;
   covers = λ a b h d. absurd h;
 }

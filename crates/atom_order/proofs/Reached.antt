@@ -33,7 +33,7 @@ module _ (events : List Event) (n : ℕ) (o : Order) (k : IsKept events n o) whe
 module _ (w : TraceState) (o : Order) (k : IsKept w.events w.transactions o) (opens : (a : ℕ) → IsOpen w a ↔ (o.is_open a ≡ true)) where
   reached_below : (fuel a : ℕ) → place a (o.dropped ++ o.live) < fuel → IsIn a o.live → IsReached w a
   reached_below zero a less h = absurd (omega arith)
-  reached_below (suc fuel) a less h = elim (k.held a h) [
+  reached_below (suc fuel) a less h = elim (k.live a h) [
     | inl is ↦ (a, (opens a).1 is, ([], refl))
     | inr link ↦
         let tie = k.ties a link.0 h link.1 in

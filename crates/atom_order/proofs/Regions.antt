@@ -171,7 +171,7 @@ module _ (opens : ℕ → Bool) (into : ℕ → List Link) (front : List ℕ) (t
   unheld_left dropped = record {
     closed = λ y l stands g is. not_gone y stands (λ h. kept_not_gone l.from is ((why_gone y h).1 l g (among_from_in l.from all (kept_live l.from is))));
     opens = λ y is. not_gone y (live_opens y (was_open (y == t) (opens y) is)) (λ h. both_ways (opens_now y) (why_gone y h).0 is);
-    held = λ y h is. elim (in_cases y front rest h) [
+    live = λ y h is. elim (in_cases y front rest h) [
       | inl g ↦ in_front y g (held y h)
       | inr g ↦ elim (held_since opens_now lives into [] rest y (forward_back into front rest f) g (kept_not_gone y is)) [
         | inl o ↦ inl o
@@ -209,7 +209,7 @@ module _ (opens : ℕ → Bool) (into : ℕ → List Link) (front : List ℕ) (t
   all_left dropped link g from = record {
     closed = λ y l stands g is. among_from_in y all stands;
     opens = λ y is. among_from_in y all (live_opens y (was_open (y == t) (opens y) is));
-    held = λ y h is. by y (cases_eq y t) (held y h);
+    live = λ y h is. by y (cases_eq y t) (held y h);
   }
     where
       was_open : (b v : Bool) → cond b false v ≡ true → v ≡ true

@@ -24,7 +24,7 @@ kept_alike events n o p same k =
       ordered = subst (NoneLeadsBack events) all k.ordered;
       placed = λ e h. subst (IsIn e.transaction) all (k.placed e h);
       opens = λ y is. there y (k.opens y (sym (same.is_open y) ∙ is));
-      held = λ y h. elim (k.held y (back y h)) [
+      live = λ y h. elim (k.live y (back y h)) [
         | inl is ↦ inl (same.is_open y ∙ is)
         | inr link ↦ inr (link.0, subst (IsIn link.0) (sym (same.into y (back y h))) link.1, there link.0.from link.2)
       ];
@@ -47,5 +47,5 @@ usable_of_kept events n s k = record {
   distinct = pairs_distinct s.live (live_apart events n (order_of s) k);
   leads = links_lead_forward events n (order_of s) k;
   opens = k.opens;
-  held = k.held;
+  live = k.live;
 }

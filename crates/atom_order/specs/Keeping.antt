@@ -36,7 +36,7 @@ pub record IsKept (events : List Event) (transactions : ℕ) (o : Order) : Type 
   pub ordered : NoneLeadsBack events (o.dropped ++ o.live)
   pub placed : (e : Event) → IsIn e events → IsIn e.transaction (o.dropped ++ o.live)
   pub opens : (y : ℕ) → o.is_open y ≡ true → IsIn y o.live
-  pub held : (y : ℕ) → IsIn y o.live → IsKeptLive o.live o.is_open o.into y
+  pub live : (y : ℕ) → IsIn y o.live → IsKeptLive o.live o.is_open o.into y
   pub ties : (y : ℕ) (l : Link) → IsIn y o.live → IsIn l (o.into y) → (l.from ≢ y) × ArePairNumbers events l.from y l.pair
   pub covers : (a b : ℕ) → IsIn a o.live → IsEdge events a b → Leads o.live o.into a b
 
@@ -77,5 +77,5 @@ with_drop t P o = record {
 pub record IsLeft (t : ℕ) (P : ℕ → Bool) (o : Order) : Type 0 where
   pub closed : IsClosed o.live o.into P
   pub opens : (y : ℕ) → cond (y == t) false (o.is_open y) ≡ true → P y ≡ true
-  pub held : (y : ℕ) → IsIn y o.live → P y ≡ true
+  pub live : (y : ℕ) → IsIn y o.live → P y ≡ true
       → (cond (y == t) false (o.is_open y) ≡ true) ⊎ ((l : Link) × IsIn l (o.into y) × IsIn l.from o.live × (P l.from ≡ true))

@@ -64,7 +64,7 @@ pub record IsUsable (s : Shape) : Type 0 where
   pub distinct : IsDistinct (λ x y. x == y) s.live
   pub leads : LeadForward (into_in s) s.live
   pub opens : (y : ℕ) → open_in s y ≡ true → IsIn y s.live
-  pub held : (y : ℕ) → IsIn y s.live → IsKeptLive s.live (open_in s) (into_in s) y
+  pub live : (y : ℕ) → IsIn y s.live → IsKeptLive s.live (open_in s) (into_in s) y
 
 -- A transaction was closed, and what doesn't stay live was dropped.
 pub record IsClosing (t : ℕ) (old new : Shape) : Type 0 where

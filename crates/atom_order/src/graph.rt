@@ -227,7 +227,7 @@ impl Graph {
     }
 
     /// Decides whether y stays live after a transaction closes and these are dropped.
-    fn is_held(&self, y: u64, closing: u64, gone: &BTreeSet<u64>) -> bool
+    fn stays_live(&self, y: u64, closing: u64, gone: &BTreeSet<u64>) -> bool
         ensures { result ≡ (cond (y == closing) false (open_in self.now y) || list_any
             (λ (l : Link). is_among l.from self.now.live && not (has_key gone.now.keys l.from))
             (into_in self.now y)) }
@@ -243,7 +243,7 @@ impl Graph {
     {
         let mut gone = BTreeSet::new(self.alloc);
         for y in region {
-            if !self.is_held(*y, closing, &gone) {
+            if !self.stays_live(*y, closing, &gone) {
                 gone.insert(*y)?;
             }
         }

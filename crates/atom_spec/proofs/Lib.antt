@@ -2,6 +2,6 @@ pub mod Patterns
 pub mod SpecLines
 pub mod TextLines
 pub mod OneReading
-pub mod FoundLaws
-pub mod SaidLaws
+pub mod LookupLaws
+pub mod DecisionLaws
 pub mod BuiltIns

@@ -5,7 +5,7 @@ use Rattle.std.specs.List.{AllByRecursion}
 use Rattle.std.proofs.lemmas.Bool.{true≢false}
 use Rattle.jvms_file.specs.Texts.{IsText}
 use Rattle.escapes.specs.declared.sort.NameSort.TheVariants as sort
-use Rattle.escapes.specs.Escapes.{spelled}
+use Rattle.escapes.specs.Escapes.{name_text}
 use Rattle.escapes.specs.Cuts.{has, dots_in}
 use Rattle.escapes.specs.Keys.{IsNameOf}
 use Rattle.escapes.proofs.Cutting.{one_cut}
@@ -23,15 +23,15 @@ use Rattle.atom_spec.proofs.SpecLines.{cut_line, word_clear}
 -- ---- Patterns
 
 -- The first dot separates the class from the name.
-parted : (c d x y : List ℕ) → IsNameOf sort.Class c → IsNameOf sort.Class d → spelled c ++ 46 ∷ x ≡ spelled d ++ 46 ∷ y → (c ≡ d) × (x ≡ y)
+parted : (c d x y : List ℕ) → IsNameOf sort.Class c → IsNameOf sort.Class d → name_text c ++ 46 ∷ x ≡ name_text d ++ 46 ∷ y → (c ≡ d) × (x ≡ y)
 parted c d x y left right e =
-    let parts = one_cut 46 (spelled c) x (spelled d) y (class_clear c left) (class_clear d right) e in
+    let parts = one_cut 46 (name_text c) x (name_text d) y (class_clear c left) (class_clear d right) e in
     (one_name c d left.units right.units parts.0, parts.1)
 
 star_is_text : IsText (codes "*")
 star_is_text = (omega arith, tt)
 
-star : (n : List ℕ) → IsNameOf sort.Method n → codes "*" ≡ spelled n → n ≡ codes "*"
+star : (n : List ℕ) → IsNameOf sort.Method n → codes "*" ≡ name_text n → n ≡ codes "*"
 star n is e = one_name n (codes "*") is.units star_is_text (sym e)
 
 same_named : (c d n m : List ℕ) → c ≡ d → n ≡ m → pattern.Named c n ≡ pattern.Named d m
@@ -45,11 +45,11 @@ by_dots : (p q : Pattern) → IsPattern p → IsPattern q → dots_of p ≡ dots
 by_dots pattern.All pattern.All left right dots e = refl
 by_dots pattern.All q left right dots e = absurd (omega arith)
 by_dots (pattern.Class c) (pattern.Class d) left right dots e = ap (λ (x : List ℕ). pattern.Class x) (parted c d (codes "*") (codes "*") left right e).0
-by_dots (pattern.Class c) (pattern.Named d m) left right dots e = absurd (right.2 (star m right.1 (parted c d (codes "*") (spelled m) left right.0 e).1))
+by_dots (pattern.Class c) (pattern.Named d m) left right dots e = absurd (right.2 (star m right.1 (parted c d (codes "*") (name_text m) left right.0 e).1))
 by_dots (pattern.Class c) q left right dots e = absurd (omega arith)
-by_dots (pattern.Named c n) (pattern.Class d) left right dots e = absurd (left.2 (star n left.1 (sym (parted c d (spelled n) (codes "*") left.0 right e).1)))
+by_dots (pattern.Named c n) (pattern.Class d) left right dots e = absurd (left.2 (star n left.1 (sym (parted c d (name_text n) (codes "*") left.0 right e).1)))
 by_dots (pattern.Named c n) (pattern.Named d m) left right dots e =
-    let parts = parted c d (spelled n) (spelled m) left.0 right.0 e in
+    let parts = parted c d (name_text n) (name_text m) left.0 right.0 e in
     same_named c d n m parts.0 (one_name n m left.1.units right.1.units parts.1)
 by_dots (pattern.Named c n) q left right dots e = absurd (omega arith)
 by_dots (pattern.Exactly c n x) (pattern.Exactly d m y) left right dots e =
@@ -86,7 +86,7 @@ same_lines (x ∷ xs) (y ∷ ys) left right e =
     ap (λ (z : SpecificationLine). z ∷ xs) (one_line x y left.0 right.0 first) ∙ ap (λ (zs : List SpecificationLine). y ∷ zs) (same_lines xs ys left.1 right.1 rest)
 
 pub one_specification : (lines : List (List ℕ)) (xs ys : List SpecificationLine) → AreLines lines xs → AreLines lines ys → xs ≡ ys
-one_specification lines xs ys left right = same_lines xs ys left.may_stand right.may_stand (sym left.written ∙ right.written)
+one_specification lines xs ys left right = same_lines xs ys left.are_valid right.are_valid (sym left.written ∙ right.written)
 
 -- ---- Faults
 
@@ -126,7 +126,7 @@ fine [] s all e = tt
 fine (x ∷ xs) s all e = fine_step x xs (is_skipped x) refl (fine xs) s all e
 
 are_fine : (xs : List (List ℕ)) (s : List SpecificationLine) → AreLines xs s → AreFine xs
-are_fine xs s are = fine xs s are.may_stand are.written
+are_fine xs s are = fine xs s are.are_valid are.written
 
 not_fine : (x : List ℕ) → is_skipped x ≡ false → ((l : SpecificationLine) → IsLine l → x ≢ line_text l) → IsFine x → ⊥
 not_fine x kept none is = elim is [ inl skipped ↦ true≢false (sym skipped ∙ kept) | inr w ↦ none w.by_line w.is w.text ]
@@ -137,7 +137,7 @@ middle (x ∷ xs) y ys are = middle xs y ys are.1
 
 pub no_fault : (text : List ℕ) (specification : List SpecificationLine) (line : ℕ) → AreLines (lines_of text) specification → IsFaulty text line → ⊥
 no_fault text specification line are fault =
-    not_fine fault.here fault.kept fault.none (middle fault.before fault.here fault.behind (subst AreFine fault.split (are_fine (lines_of text) specification are)))
+    not_fine fault.here fault.kept fault.none (middle fault.before fault.here fault.after (subst AreFine fault.split (are_fine (lines_of text) specification are)))
 
 same_place : (xs ys : List (List ℕ)) (x y : List ℕ) (us vs : List (List ℕ)) → AreFine xs → AreFine ys → (IsFine x → ⊥) → (IsFine y → ⊥) → xs ++ x ∷ us ≡ ys ++ y ∷ vs → length xs ≡ length ys
 same_place [] [] x y us vs left right no_x no_y e = refl
@@ -153,6 +153,6 @@ same_place (a ∷ xs) (b ∷ ys) x y us vs left right no_x no_y e =
 
 pub one_fault : (text : List ℕ) (j k : ℕ) → IsFaulty text j → IsFaulty text k → j ≡ k
 one_fault text j k left right =
-    let same = same_place left.before right.before left.here right.here left.behind right.behind (are_fine left.before left.specification left.first) (are_fine right.before right.specification right.first)
+    let same = same_place left.before right.before left.here right.here left.after right.after (are_fine left.before left.specification left.first) (are_fine right.before right.specification right.first)
     (not_fine left.here left.kept left.none) (not_fine right.here right.kept right.none) (sym left.split ∙ right.split) in
     left.count ∙ ap suc same ∙ sym right.count

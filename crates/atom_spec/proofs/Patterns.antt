@@ -6,7 +6,7 @@ use Rattle.std.proofs.lemmas.Bool.{true≢false}
 use Rattle.jvms_program.specs.declared.key.MethodKey.{MethodKey}
 use Rattle.jvms_file.specs.Names.{same_text}
 use Rattle.escapes.specs.declared.sort.NameSort.TheVariants as sort
-use Rattle.escapes.specs.Escapes.{spelled}
+use Rattle.escapes.specs.Escapes.{name_text}
 use Rattle.escapes.specs.Cuts.{has, dots_in}
 use Rattle.escapes.specs.Keys.{IsNameOf, IsMethodKey, member_text, method_text}
 use Rattle.escapes.specs.Readings.{IsReadAs}
@@ -24,9 +24,9 @@ use Rattle.atom_spec.specs.Parts.{dots_of, IsPatternWith}
 pub pattern_dots : (p : Pattern) → IsPattern p → dots_in (pattern_text p) ≡ dots_of p
 pattern_dots pattern.All is = refl
 pattern_dots (pattern.Class class) is =
-    joined_count (spelled class) (46 ∷ codes "*") 0 1 (name_dots sort.Class class is) refl
+    joined_count (name_text class) (46 ∷ codes "*") 0 1 (name_dots sort.Class class is) refl
 pattern_dots (pattern.Named class name) is =
-    joined_count (spelled class) (46 ∷ spelled name) 0 1 (name_dots sort.Class class is.0) (behind_dot (spelled name) 0 (name_dots sort.Method name is.1))
+    joined_count (name_text class) (46 ∷ name_text name) 0 1 (name_dots sort.Class class is.0) (behind_dot (name_text name) 0 (name_dots sort.Method name is.1))
 pattern_dots (pattern.Exactly class name descriptor) is = member_dots sort.Method sort.MethodDescriptor class name descriptor is
 
 -- A text with n dots can only be that of a pattern with n dots.
@@ -53,23 +53,23 @@ no_method text none (pattern.Exactly class name descriptor) is e = none (method_
 
 -- ---- A class, or its methods with one name
 
-pub class_clear : (class : List ℕ) → IsNameOf sort.Class class → has 46 (spelled class) ≡ false
+pub class_clear : (class : List ℕ) → IsNameOf sort.Class class → has 46 (name_text class) ≡ false
 class_clear class is = spelled_no_dot class (no_dot sort.Class class is)
 
-pub no_class : (text class rest : List ℕ) → text ≡ class ++ 46 ∷ rest → has 46 class ≡ false → ((us : List ℕ) → IsNameOf sort.Class us → class ≢ spelled us) → (p : Pattern) → IsPatternWith 1 p → text ≢ pattern_text p
+pub no_class : (text class rest : List ℕ) → text ≡ class ++ 46 ∷ rest → has 46 class ≡ false → ((us : List ℕ) → IsNameOf sort.Class us → class ≢ name_text us) → (p : Pattern) → IsPatternWith 1 p → text ≢ pattern_text p
 no_class text class rest split clear none pattern.All is e = absurd (let no = is.has in omega arith)
 no_class text class rest split clear none (pattern.Class c) is e =
-    none c is.is (one_cut 46 class rest (spelled c) (codes "*") clear (class_clear c is.is) (sym split ∙ e)).0
+    none c is.is (one_cut 46 class rest (name_text c) (codes "*") clear (class_clear c is.is) (sym split ∙ e)).0
 no_class text class rest split clear none (pattern.Named c n) is e =
-    none c is.is.0 (one_cut 46 class rest (spelled c) (spelled n) clear (class_clear c is.is.0) (sym split ∙ e)).0
+    none c is.is.0 (one_cut 46 class rest (name_text c) (name_text n) clear (class_clear c is.is.0) (sym split ∙ e)).0
 no_class text class rest split clear none (pattern.Exactly c n d) is e = absurd (let no = is.has in omega arith)
 
-pub no_name : (text class rest : List ℕ) → text ≡ class ++ 46 ∷ rest → has 46 class ≡ false → same_text rest (codes "*") ≡ false → ((us : List ℕ) → IsNameOf sort.Method us → rest ≢ spelled us)
+pub no_name : (text class rest : List ℕ) → text ≡ class ++ 46 ∷ rest → has 46 class ≡ false → same_text rest (codes "*") ≡ false → ((us : List ℕ) → IsNameOf sort.Method us → rest ≢ name_text us)
     → (p : Pattern) → IsPatternWith 1 p → text ≢ pattern_text p
 no_name text class rest split clear star none pattern.All is e = absurd (let no = is.has in omega arith)
 no_name text class rest split clear star none (pattern.Class c) is e =
-    let same = (one_cut 46 class rest (spelled c) (codes "*") clear (class_clear c is.is) (sym split ∙ e)).1 in
+    let same = (one_cut 46 class rest (name_text c) (codes "*") clear (class_clear c is.is) (sym split ∙ e)).1 in
     true≢false (sym (ap (λ (us : List ℕ). same_text us (codes "*")) same) ∙ star)
 no_name text class rest split clear star none (pattern.Named c n) is e =
-    none n is.is.1 (one_cut 46 class rest (spelled c) (spelled n) clear (class_clear c is.is.0) (sym split ∙ e)).1
+    none n is.is.1 (one_cut 46 class rest (name_text c) (name_text n) clear (class_clear c is.is.0) (sym split ∙ e)).1
 no_name text class rest split clear star none (pattern.Exactly c n d) is e = absurd (let no = is.has in omega arith)

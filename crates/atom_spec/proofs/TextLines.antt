@@ -61,7 +61,7 @@ faulty text rest line others number b old new read lines isnt adds =
     record {
       before = read.before;
       here = line;
-      behind = others;
+      after = others;
       specification = old;
       split = read.split ∙ ap (λ (x : Lines). read.before ++ x) lines;
       count = read.count;

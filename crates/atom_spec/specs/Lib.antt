@@ -1,6 +1,6 @@
-pub mod Found
+pub mod Lookup
 pub mod Lines
 pub mod Parts
-pub mod Said
+pub mod Decisions
 pub mod Specs
 pub mod Tables

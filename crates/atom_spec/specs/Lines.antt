@@ -2,7 +2,7 @@
 use Rattle.std.specs.Prelude.{◌≡◌, ◌≢◌, ℕ, Bool, true, false, ◌==◌, if◌then◌else◌, List, [], ◌∷◌, ◌++◌, codes}
 use Rattle.jvms_program.specs.declared.key.MethodKey.{MethodKey}
 use Rattle.escapes.specs.declared.sort.NameSort.TheVariants as sort
-use Rattle.escapes.specs.Escapes.{spelled}
+use Rattle.escapes.specs.Escapes.{name_text}
 use Rattle.escapes.specs.Keys.{IsNameOf, IsMember, member_text}
 use Rattle.velodrome.specs.declared.specification.Pattern.{Pattern}
 use Rattle.velodrome.specs.declared.specification.Pattern.TheVariants as pattern
@@ -11,8 +11,8 @@ use Rattle.velodrome.specs.declared.specification.SpecificationLine.{Specificati
 -- Returns the text of a pattern: `*`, `C.*`, `C.m` or `C.m.D`.
 abbrev pub pattern_text : Pattern → List ℕ
 pattern_text pattern.All = codes "*"
-pattern_text (pattern.Class class) = spelled class ++ 46 ∷ codes "*"
-pattern_text (pattern.Named class name) = spelled class ++ 46 ∷ spelled name
+pattern_text (pattern.Class class) = name_text class ++ 46 ∷ codes "*"
+pattern_text (pattern.Named class name) = name_text class ++ 46 ∷ name_text name
 pattern_text (pattern.Exactly class name descriptor) = member_text class name descriptor
 
 -- A line may have this pattern: its names and its descriptor are well formed (JVMS 4.2, 4.3). `C.*` is the pattern of a

@@ -12,16 +12,16 @@ lines_of text = slice_split (λ b. b == 10) text
 
 -- The lines that are not skipped are those of the specification.
 pub record AreLines (lines : List (List ℕ)) (specification : List SpecificationLine) : Type 0 where
-  pub may_stand : AllByRecursion IsLine specification
+  pub are_valid : AllByRecursion IsLine specification
   pub written : filter (λ l. not (is_skipped l)) lines ≡ map line_text specification
 
 -- Line `line` is the first that is neither skipped nor a line of a specification.
 pub record IsFaulty (text : List ℕ) (line : ℕ) : Type 0 where
   pub before : List (List ℕ)
   pub here : List ℕ
-  pub behind : List (List ℕ)
+  pub after : List (List ℕ)
   pub specification : List SpecificationLine
-  pub split : lines_of text ≡ before ++ here ∷ behind
+  pub split : lines_of text ≡ before ++ here ∷ after
   pub count : line ≡ suc (length before)
   pub first : AreLines before specification
   pub kept : is_skipped here ≡ false

@@ -4,7 +4,7 @@ ghost use Rattle.std.specs.Prelude.{◌≡◌, IfOk};
 ghost use Rattle.jvms_file.specs.Names.{begins_with};
 ghost use Rattle.jvms_program.specs.BuiltIn.{is_built_in};
 ghost use Rattle.velodrome.specs.Specification.{is_atomic};
-ghost use Rattle.atom_spec.specs.Said.{Says};
+ghost use Rattle.atom_spec.specs.Decisions.{IsTableOf};
 ghost use Rattle.atom_spec.specs.Specs.{IsRead};
 
 use crate::fault::SpecFault;
@@ -38,18 +38,18 @@ pub struct Spec {
 impl Model for Spec {
     ghost use Rattle.std.specs.Prelude.{List};
     ghost use Rattle.velodrome.specs.declared.specification.SpecificationLine.{SpecificationLine};
-    ghost use Rattle.atom_spec.specs.Said.{Says};
+    ghost use Rattle.atom_spec.specs.Decisions.{IsTableOf};
 
     ghost Value = { List SpecificationLine };
 
     ghost view = { λ s. s.parts.lines };
 
-    ghost invariant = { λ s. Says s.parts.table s.parts.lines };
+    ghost invariant = { λ s. IsTableOf s.parts.table s.parts.lines };
 }
 
 /// Returns the table of what the lines say.
 fn table_of(alloc: Global, lines: &[SpecificationLine]) -> Result<Table, AllocError>
-    ensures { IfOk result (λ table. Says table lines.now) }
+    ensures { IfOk result (λ table. IsTableOf table lines.now) }
 {
     let mut table = Table::new(alloc, false);
     for line in lines {
@@ -115,7 +115,7 @@ impl Spec {
     pub fn is_atomic(&self, method: &MethodKey) -> bool
         ensures { result ≡ is_atomic self.now method.now }
     {
-        self.parts.get().table.said(method)
+        self.parts.get().table.decision(method)
             && !is_initializer_name(method.name.as_slice())
             && !is_built_in_class(method.class.as_slice())
     }

@@ -43,21 +43,21 @@ impl NameTable {
     }
 
     /// Returns the decision for a descriptor.
-    fn said(&self, descriptor: &[u16]) -> bool
+    fn decision(&self, descriptor: &[u16]) -> bool
         ensures { result ≡ decision_of_name self.now descriptor.now }
     {
         match self.exactly.find(descriptor) {
-            Some(said) => *said,
+            Some(decision) => *decision,
             None => self.other,
         }
     }
 
     /// Sets the decision for a descriptor.
-    fn put(&mut self, alloc: Global, descriptor: &[u16], said: bool) -> Result<(), AllocError>
+    fn put(&mut self, alloc: Global, descriptor: &[u16], decision: bool) -> Result<(), AllocError>
         ensures { OnOk result ((q : List ℕ) → decision_of_name self.new q
-            ≡ (if same_text q descriptor.now then said else decision_of_name self.old q)) }
+            ≡ (if same_text q descriptor.now then decision else decision_of_name self.old q)) }
     {
-        self.exactly.put(alloc, descriptor, said)
+        self.exactly.put(alloc, descriptor, decision)
     }
 }
 
@@ -75,11 +75,11 @@ impl ClassTable {
     }
 
     /// Returns the decision for a name and a descriptor.
-    fn said(&self, name: &[u16], descriptor: &[u16]) -> bool
+    fn decision(&self, name: &[u16], descriptor: &[u16]) -> bool
         ensures { result ≡ decision_of_class self.now name.now descriptor.now }
     {
         match self.names.find(name) {
-            Some(table) => table.said(descriptor),
+            Some(table) => table.decision(descriptor),
             None => self.other,
         }
     }
@@ -98,11 +98,11 @@ impl ClassTable {
     }
 
     /// Sets the decision for all methods of a name.
-    fn put_name(&mut self, alloc: Global, name: &[u16], said: bool) -> Result<(), AllocError>
+    fn put_name(&mut self, alloc: Global, name: &[u16], decision: bool) -> Result<(), AllocError>
         ensures { OnOk result ((p q : List ℕ) → decision_of_class self.new p q
-            ≡ (if same_text p name.now then said else decision_of_class self.old p q)) }
+            ≡ (if same_text p name.now then decision else decision_of_class self.old p q)) }
     {
-        self.names.put(alloc, name, NameTable::new(alloc, said))
+        self.names.put(alloc, name, NameTable::new(alloc, decision))
     }
 
     /// Sets the decision for a name with a descriptor.
@@ -111,14 +111,14 @@ impl ClassTable {
         alloc: Global,
         name: &[u16],
         descriptor: &[u16],
-        said: bool,
+        decision: bool,
     ) -> Result<(), AllocError>
         ensures { OnOk result ((p q : List ℕ) → decision_of_class self.new p q
             ≡ (if same_text p name.now && same_text q descriptor.now
-            then said else decision_of_class self.old p q)) }
+            then decision else decision_of_class self.old p q)) }
     {
         let mut table = self.take(alloc, name);
-        table.put(alloc, descriptor, said)?;
+        table.put(alloc, descriptor, decision)?;
         self.names.put(alloc, name, table)
     }
 }
@@ -139,11 +139,11 @@ impl Table {
     }
 
     /// Returns the decision for a method.
-    pub(crate) fn said(&self, method: &MethodKey) -> bool
+    pub(crate) fn decision(&self, method: &MethodKey) -> bool
         ensures { result ≡ decision_of self.now method.now }
     {
         match self.classes.find(method.class.as_slice()) {
-            Some(table) => table.said(method.name.as_slice(), method.descriptor.as_slice()),
+            Some(table) => table.decision(method.name.as_slice(), method.descriptor.as_slice()),
             None => self.other,
         }
     }
@@ -162,11 +162,12 @@ impl Table {
     }
 
     /// Sets the decision for all methods of a class.
-    fn put_class(&mut self, alloc: Global, class: &[u16], said: bool) -> Result<(), AllocError>
+    fn put_class(&mut self, alloc: Global, class: &[u16], decision: bool) -> Result<(), AllocError>
         ensures { OnOk result ((m : MethodKey) → decision_of self.new m
-            ≡ (if same_text m.class class.now then said else decision_of self.old m)) }
+            ≡ (if same_text m.class class.now then decision else decision_of self.old m)) }
     {
-        self.classes.put(alloc, class, ClassTable::new(alloc, said))
+        self.classes
+            .put(alloc, class, ClassTable::new(alloc, decision))
     }
 
     /// Sets the decision for the methods of a class with one name.
@@ -175,14 +176,14 @@ impl Table {
         alloc: Global,
         class: &[u16],
         name: &[u16],
-        said: bool,
+        decision: bool,
     ) -> Result<(), AllocError>
         ensures { OnOk result ((m : MethodKey)
             → decision_of self.new m ≡ (if same_text m.class class.now && same_text m.name name.now
-            then said else decision_of self.old m)) }
+            then decision else decision_of self.old m)) }
     {
         let mut table = self.take(alloc, class);
-        table.put_name(alloc, name, said)?;
+        table.put_name(alloc, name, decision)?;
         self.classes.put(alloc, class, table)
     }
 
@@ -193,14 +194,14 @@ impl Table {
         class: &[u16],
         name: &[u16],
         descriptor: &[u16],
-        said: bool,
+        decision: bool,
     ) -> Result<(), AllocError>
         ensures { OnOk result ((m : MethodKey)
             → decision_of self.new m ≡ (if same_text m.class class.now && same_text m.name name.now
-            && same_text m.descriptor descriptor.now then said else decision_of self.old m)) }
+            && same_text m.descriptor descriptor.now then decision else decision_of self.old m)) }
     {
         let mut table = self.take(alloc, class);
-        table.put_exactly(alloc, name, descriptor, said)?;
+        table.put_exactly(alloc, name, descriptor, decision)?;
         self.classes.put(alloc, class, table)
     }
 
@@ -209,15 +210,15 @@ impl Table {
         ensures { OnOk result ((m : MethodKey) → decision_of self.new m
             ≡ (if is_of line.now.pattern m then line.now.is_atomic else decision_of self.old m)) }
     {
-        let said = line.is_atomic;
+        let decision = line.is_atomic;
         match &line.pattern {
             Pattern::All => {
-                *self = Table::new(alloc, said);
+                *self = Table::new(alloc, decision);
                 Ok(())
             }
-            Pattern::Class { class } => self.put_class(alloc, class.as_slice(), said),
+            Pattern::Class { class } => self.put_class(alloc, class.as_slice(), decision),
             Pattern::Named { class, name } => {
-                self.put_name(alloc, class.as_slice(), name.as_slice(), said)
+                self.put_name(alloc, class.as_slice(), name.as_slice(), decision)
             }
             Pattern::Exactly {
                 class,
@@ -228,7 +229,7 @@ impl Table {
                 class.as_slice(),
                 name.as_slice(),
                 descriptor.as_slice(),
-                said,
+                decision,
             ),
         }
     }

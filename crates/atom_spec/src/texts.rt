@@ -3,7 +3,7 @@
 ghost use Rattle.std.specs.Prelude.{◌≡◌, ℕ, List, [], false, Some, OnOk, if◌then◌else◌};
 ghost use Rattle.std.specs.Option.{option_copied};
 ghost use Rattle.jvms_file.specs.Names.{same_text};
-ghost use Rattle.atom_spec.specs.Found.{found};
+ghost use Rattle.atom_spec.specs.Lookup.{lookup_text};
 
 use std::alloc::{AllocError, Global};
 use std::collections::BTreeMap;
@@ -35,16 +35,16 @@ impl<V> Texts<V> {
 
     /// Returns the value of a text.
     pub(crate) fn find(&self, text: &[u16]) -> Option<&V>
-        ensures { option_copied result ≡ found self.now text.now }
+        ensures { option_copied result ≡ lookup_text self.now text.now }
     {
         self.values.get(text)
     }
 
     /// Removes the value of a text and returns it.
     pub(crate) fn take(&mut self, text: &[u16]) -> Option<V>
-        ensures value { result ≡ found self.old text.now }
+        ensures value { result ≡ lookup_text self.old text.now }
         ensures others { (q : List ℕ) → same_text q text.now ≡ false
-            → found self.new q ≡ found self.old q }
+            → lookup_text self.new q ≡ lookup_text self.old q }
     {
         self.values.remove(text)
     }
@@ -54,7 +54,8 @@ impl<V> Texts<V> {
     where
         V: Drop,
         ensures { OnOk result ((q : List ℕ)
-            → found self.new q ≡ (if same_text q text.now then Some value else found self.old q)) }
+            → lookup_text self.new q
+            ≡ (if same_text q text.now then Some value else lookup_text self.old q)) }
     {
         let key = Vec::from_slice(alloc, text)?;
         self.values.insert(key, value)?;

@@ -1,10 +1,10 @@
 //! The classes that every program has.
 
 ghost use Rattle.std.specs.Prelude.{◌≡◌, ◌∷◌, [], codes, true, IfOk, OnOk};
-ghost use Rattle.jvms_program.specs.BuiltIn.{object, class_with, interface_with, object_class, runnable_class, thread_class, print_stream_class, coded, field, load, return_void, target_field, call_run};
+ghost use Rattle.jvms_program.specs.BuiltIn.{object, class_with, interface_with, object_class, runnable_class, thread_class, print_stream_class, method_with_code, field, load, return_void, target_field, call_run};
 
 use crate::code::{call_run, load, return_void, target_field};
-use crate::members::{abstracted, coded, field, native};
+use crate::members::{abstract_method, field, method_with_code, native_method};
 use jvms_file::insn::{Branch, FieldUse};
 use jvms_program::program::{Class, ClassKind, Field, Instruction, Method};
 use shared_data::items::Items;
@@ -61,9 +61,9 @@ fn put_object_methods(alloc: Global, methods: &mut Vec<Method>) -> Result<(), Al
     ensures { OnOk result (methods.new.items ≡ object_class.methods) }
 {
     methods.push(plain_constructor(alloc)?)?;
-    methods.push(native(alloc, "wait", "()V")?)?;
-    methods.push(native(alloc, "notify", "()V")?)?;
-    methods.push(native(alloc, "notifyAll", "()V")?)?;
+    methods.push(native_method(alloc, "wait", "()V")?)?;
+    methods.push(native_method(alloc, "notify", "()V")?)?;
+    methods.push(native_method(alloc, "notifyAll", "()V")?)?;
     Ok(())
 }
 
@@ -85,23 +85,24 @@ pub(crate) fn object_class(alloc: Global) -> Result<Class, AllocError>
 pub(crate) fn runnable_class(alloc: Global) -> Result<Class, AllocError>
     ensures { IfOk result (λ c. c ≡ runnable_class) }
 {
-    let methods = vec![in alloc; abstracted(alloc, "run", "()V")?]?;
+    let methods = vec![in alloc; abstract_method(alloc, "run", "()V")?]?;
     interface_with(alloc, methods, "java/lang/Runnable")
 }
 
 /// Creates the constructor of a thread with a target.
 fn thread_constructor(alloc: Global) -> Result<Method, AllocError>
-    ensures { IfOk result (λ m. m ≡ coded (codes "<init>") (codes "(Ljava/lang/Runnable;)V")
+    ensures { IfOk result
+        (λ m. m ≡ method_with_code (codes "<init>") (codes "(Ljava/lang/Runnable;)V")
         (load 0 ∷ load 1 ∷ target_field FieldUse.Put ∷ return_void ∷ [])) }
 {
     let put = target_field(alloc, FieldUse::Put)?;
     let code = vec![in alloc; load(0), load(1), put, return_void()]?;
-    coded(alloc, "<init>", "(Ljava/lang/Runnable;)V", code)
+    method_with_code(alloc, "<init>", "(Ljava/lang/Runnable;)V", code)
 }
 
 /// Creates a thread's run, which calls the target's run if there is a target.
 fn thread_run(alloc: Global) -> Result<Method, AllocError>
-    ensures { IfOk result (λ m. m ≡ coded (codes "run") (codes "()V")
+    ensures { IfOk result (λ m. m ≡ method_with_code (codes "run") (codes "()V")
         (load 0 ∷ target_field FieldUse.Get ∷ Instruction.Branch Branch.IfNull 6
         ∷ load 0 ∷ target_field FieldUse.Get ∷ call_run ∷ return_void ∷ [])) }
 {
@@ -118,15 +119,16 @@ fn thread_run(alloc: Global) -> Result<Method, AllocError>
         call,
         return_void(),
     ]?;
-    coded(alloc, "run", "()V", code)
+    method_with_code(alloc, "run", "()V", code)
 }
 
 /// Creates the constructor of most classes, which does nothing.
 pub(crate) fn plain_constructor(alloc: Global) -> Result<Method, AllocError>
-    ensures { IfOk result (λ m. m ≡ coded (codes "<init>") (codes "()V") (return_void ∷ [])) }
+    ensures { IfOk result
+        (λ m. m ≡ method_with_code (codes "<init>") (codes "()V") (return_void ∷ [])) }
 {
     let code = vec![in alloc; return_void()]?;
-    coded(alloc, "<init>", "()V", code)
+    method_with_code(alloc, "<init>", "()V", code)
 }
 
 /// Appends the methods of a thread to an empty list.
@@ -137,8 +139,8 @@ fn put_thread_methods(alloc: Global, methods: &mut Vec<Method>) -> Result<(), Al
     methods.push(plain_constructor(alloc)?)?;
     methods.push(thread_constructor(alloc)?)?;
     methods.push(thread_run(alloc)?)?;
-    methods.push(native(alloc, "start", "()V")?)?;
-    methods.push(native(alloc, "join", "()V")?)?;
+    methods.push(native_method(alloc, "start", "()V")?)?;
+    methods.push(native_method(alloc, "join", "()V")?)?;
     Ok(())
 }
 
@@ -165,13 +167,13 @@ fn put_print_methods(alloc: Global, methods: &mut Vec<Method>) -> Result<(), All
     requires { methods.old.items ≡ [] }
     ensures { OnOk result (methods.new.items ≡ print_stream_class.methods) }
 {
-    methods.push(native(alloc, "print", "(I)V")?)?;
-    methods.push(native(alloc, "print", "(J)V")?)?;
-    methods.push(native(alloc, "print", "(Ljava/lang/String;)V")?)?;
-    methods.push(native(alloc, "println", "(I)V")?)?;
-    methods.push(native(alloc, "println", "(J)V")?)?;
-    methods.push(native(alloc, "println", "(Ljava/lang/String;)V")?)?;
-    methods.push(native(alloc, "println", "()V")?)?;
+    methods.push(native_method(alloc, "print", "(I)V")?)?;
+    methods.push(native_method(alloc, "print", "(J)V")?)?;
+    methods.push(native_method(alloc, "print", "(Ljava/lang/String;)V")?)?;
+    methods.push(native_method(alloc, "println", "(I)V")?)?;
+    methods.push(native_method(alloc, "println", "(J)V")?)?;
+    methods.push(native_method(alloc, "println", "(Ljava/lang/String;)V")?)?;
+    methods.push(native_method(alloc, "println", "()V")?)?;
     Ok(())
 }
 

@@ -1,7 +1,7 @@
 //! Members of the built-in classes.
 
 ghost use Rattle.std.specs.Prelude.{◌≡◌, IfOk};
-ghost use Rattle.jvms_program.specs.BuiltIn.{method, coded, native, abstracted, field, no_flags};
+ghost use Rattle.jvms_program.specs.BuiltIn.{method, method_with_code, native_method, abstract_method, field, no_flags};
 
 use descriptor::{field_type, method_type};
 use jvms_program::instructions::Instructions;
@@ -48,13 +48,13 @@ fn method(
 }
 
 /// Creates a method with code, with a stack of 2 and 2 locals.
-pub(crate) fn coded(
+pub(crate) fn method_with_code(
     alloc: Global,
     name: &str,
     descriptor: &str,
     code: Vec<Instruction>,
 ) -> Result<Method, AllocError>
-    ensures { IfOk result (λ m. m ≡ coded name.now descriptor.now code.items) }
+    ensures { IfOk result (λ m. m ≡ method_with_code name.now descriptor.now code.items) }
 {
     let body = Body {
         max_stack: 2,
@@ -66,8 +66,12 @@ pub(crate) fn coded(
 }
 
 /// Creates a native method.
-pub(crate) fn native(alloc: Global, name: &str, descriptor: &str) -> Result<Method, AllocError>
-    ensures { IfOk result (λ m. m ≡ native name.now descriptor.now) }
+pub(crate) fn native_method(
+    alloc: Global,
+    name: &str,
+    descriptor: &str,
+) -> Result<Method, AllocError>
+    ensures { IfOk result (λ m. m ≡ native_method name.now descriptor.now) }
 {
     let flags = MethodFlags {
         is_native: true,
@@ -77,8 +81,12 @@ pub(crate) fn native(alloc: Global, name: &str, descriptor: &str) -> Result<Meth
 }
 
 /// Creates an abstract method.
-pub(crate) fn abstracted(alloc: Global, name: &str, descriptor: &str) -> Result<Method, AllocError>
-    ensures { IfOk result (λ m. m ≡ abstracted name.now descriptor.now) }
+pub(crate) fn abstract_method(
+    alloc: Global,
+    name: &str,
+    descriptor: &str,
+) -> Result<Method, AllocError>
+    ensures { IfOk result (λ m. m ≡ abstract_method name.now descriptor.now) }
 {
     let flags = MethodFlags {
         is_abstract: true,

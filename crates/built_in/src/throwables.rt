@@ -1,11 +1,11 @@
 //! The classes of exceptions: Throwable and the built-in ones below it.
 
 ghost use Rattle.std.specs.Prelude.{◌≡◌, ◌∷◌, ◌++◌, [], codes, map, IfOk, OnOk};
-ghost use Rattle.jvms_program.specs.BuiltIn.{coded, field, load, return_void, return_reference, message_field, throwable_constructors, throwable_class, throwable_below};
+ghost use Rattle.jvms_program.specs.BuiltIn.{method_with_code, field, load, return_void, return_reference, message_field, throwable_constructors, throwable_class, throwable_below};
 
 use crate::classes::{OBJECT, class_with, plain_constructor};
 use crate::code::{load, message_field, return_reference, return_void};
-use crate::members::{coded, field};
+use crate::members::{field, method_with_code};
 use jvms_file::insn::FieldUse;
 use jvms_program::program::{Class, Method};
 use shared_data::texts::ascii_text;
@@ -98,22 +98,24 @@ pub(crate) const BELOW: [(&str, &str); 27] = [
 
 /// Creates the constructor that stores a message.
 fn message_constructor(alloc: Global) -> Result<Method, AllocError>
-    ensures { IfOk result (λ m. m ≡ coded (codes "<init>") (codes "(Ljava/lang/String;)V")
+    ensures { IfOk result
+        (λ m. m ≡ method_with_code (codes "<init>") (codes "(Ljava/lang/String;)V")
         (load 0 ∷ load 1 ∷ message_field FieldUse.Put ∷ return_void ∷ [])) }
 {
     let put = message_field(alloc, FieldUse::Put)?;
     let code = vec![in alloc; load(0), load(1), put, return_void()]?;
-    coded(alloc, "<init>", "(Ljava/lang/String;)V", code)
+    method_with_code(alloc, "<init>", "(Ljava/lang/String;)V", code)
 }
 
 /// Creates the method that returns the message.
 fn get_message(alloc: Global) -> Result<Method, AllocError>
-    ensures { IfOk result (λ m. m ≡ coded (codes "getMessage") (codes "()Ljava/lang/String;")
+    ensures { IfOk result
+        (λ m. m ≡ method_with_code (codes "getMessage") (codes "()Ljava/lang/String;")
         (load 0 ∷ message_field FieldUse.Get ∷ return_reference ∷ [])) }
 {
     let get = message_field(alloc, FieldUse::Get)?;
     let code = vec![in alloc; load(0), get, return_reference()]?;
-    coded(alloc, "getMessage", "()Ljava/lang/String;", code)
+    method_with_code(alloc, "getMessage", "()Ljava/lang/String;", code)
 }
 
 /// Creates the constructors of Throwable and of each class below it.

@@ -11,7 +11,7 @@ use Rattle.campaign_book.proofs.History.{replays_push}
 use Rattle.campaign_desk.specs.Events as desk
 use Rattle.campaign_desk.specs.Facts.{IsDesk}
 use Rattle.campaign_desk.proofs.EventLaws as laws
-use Rattle.campaign.specs.Whole.{Event, Step, Store, Whole, stored, after, after_all, first_state, EventsKeep, IsEvent}
+use Rattle.campaign.specs.Whole.{Event, Step, Store, Whole, rows_after, after, after_all, first_state, EventsKeep, IsEvent}
 
 -- The steps at the desk among events.
 abbrev steps_of : List Event → List desk.Event
@@ -31,7 +31,7 @@ tail_all P x xs all k d h = all (suc k) d (omega arith)
 head_all : {A : Type 0} (P : A → Type 0) (x : A) (xs : List A) → All P (x ∷ xs) → P x
 head_all P x xs all = all zero x (omega arith)
 
-book_after : (program : List Class) (plan : Plan) (rows : List Row) (row : Row) (r : Option StoreFault) → refusal plan rows row ≡ r → IsRight program plan row → IsBook program plan rows → IsBook program plan (stored r rows row)
+book_after : (program : List Class) (plan : Plan) (rows : List Row) (row : Row) (r : Option StoreFault) → refusal plan rows row ≡ r → IsRight program plan row → IsBook program plan rows → IsBook program plan (rows_after r rows row)
 book_after program plan rows row None new right is =
     record { right = All-push (IsRight program plan) rows row is.right right; replays = replays_push plan [] rows row is.replays new }
 book_after program plan rows row (Some fault) new right is = is

@@ -26,13 +26,13 @@ pub record Whole : Type 0 where
   pub rows : List Row
 
 -- Appends a row if there is no reason against it.
-abbrev pub stored : Option StoreFault → List Row → Row → List Row
-stored None rows row = rows ++ row ∷ []
-stored (Some fault) rows row = rows
+abbrev pub rows_after : Option StoreFault → List Row → Row → List Row
+rows_after None rows row = rows ++ row ∷ []
+rows_after (Some fault) rows row = rows
 
 abbrev pub after : Plan → Whole → Event → Whole
 after plan s (Step e) = record s { desk = desk.after s.desk e }
-after plan s (Store row) = record s { rows = stored (refusal plan s.rows row) s.rows row }
+after plan s (Store row) = record s { rows = rows_after (refusal plan s.rows row) s.rows row }
 
 abbrev pub after_all : Plan → Whole → List Event → Whole
 after_all plan s events = fold (after plan) s events

@@ -9,7 +9,7 @@ use Rattle.atom_order.proofs.Cycle.{taken}
 use Rattle.atom_order.proofs.Edges.{cycle_within}
 use Rattle.velodrome.specs.Cycles.{IsCycle, IsFirstAt}
 use Rattle.velodrome.specs.Specification.{Specification}
-use Rattle.velodrome.specs.Transactions.{Event, walk}
+use Rattle.velodrome.specs.Transactions.{Event, trace_state_of}
 use Rattle.program_runs.specs.Shown.{Shown}
 use Rattle.campaign_jobs.specs.declared.plan.Plan.{Plan}
 use Rattle.campaign_jobs.specs.declared.result.Atomicity.{Atomicity}
@@ -45,7 +45,7 @@ same_parts r s atomicity_is status_is turns_is events_is =
 one_in : (lines : Specification) (shown : Result Shown StartFault) (r s : JobResult) → IsResultIn lines shown r → IsResultIn lines shown s → r ≡ s
 one_in lines (Err why) r s first second = absurd first
 one_in lines (Ok shown) r s first second =
-    same_parts r s (one_atomicity (walk lines shown.items).events r.atomicity s.atomicity first.atomicity second.atomicity)
+    same_parts r s (one_atomicity (trace_state_of lines shown.items).events r.atomicity s.atomicity first.atomicity second.atomicity)
     (first.status ∙ sym second.status) (first.turns ∙ sym second.turns) (first.events ∙ sym second.events)
 
 pub is_one : (program : List Class) (plan : Plan) (number : ℕ) (r s : JobResult) → IsResultOf program plan number r → IsResultOf program plan number s → r ≡ s

@@ -3,7 +3,7 @@ use Rattle.std.proofs.Common.{◌≡◌, ℕ, ◌+◌, ◌%◌, ◌^◌, List, a
 use Rattle.std.specs.Prelude.{Ok}
 use Rattle.jvms_file.specs.Results.{◌>>=◌}
 use Rattle.jvms_program.specs.declared.program.Class.{Class}
-use Rattle.jvms_machine.specs.Opening.{made}
+use Rattle.jvms_machine.specs.Opening.{start_of_entry}
 use Rattle.machine.specs.Started.{opened}
 use Rattle.schedule.specs.Choosers.{generator_of}
 use Rattle.program_runs.specs.Shown.{view_of_choices}
@@ -20,6 +20,6 @@ same_stream plan begin jobs number =
 pub same_job : (program : List Class) (plan : Plan) (begin jobs number : ℕ) → job_shown program (part_of plan begin jobs) number ≡ job_shown program plan (begin + number)
 unfolding job_shown
 same_job program plan begin jobs number =
-    ap (λ stream. made program plan.limits plan.entry >>= λ start. Ok (
+    ap (λ stream. start_of_entry program plan.limits plan.entry >>= λ start. Ok (
     let m = opened program plan.limits start in view_of_choices m (job_choices plan.most (generator_of plan.seed stream) m)
     )) (same_stream plan begin jobs number)

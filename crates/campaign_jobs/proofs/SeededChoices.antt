@@ -4,7 +4,7 @@ use Rattle.std.proofs.lemmas.Option.{slice_get-get_or}
 use Rattle.rand_pcg.specs.Lcg.{Lcg}
 use Rattle.rand_pcg.specs.Pcg.{pcg32}
 use Rattle.machine.specs.Machine.{Machine}
-use Rattle.schedule.specs.Choosers.{Chooser, Seeded, by_word, generator_of, opened}
+use Rattle.schedule.specs.Choosers.{Chooser, Seeded, by_word, generator_of, chooser_of_schedule}
 use Rattle.schedule.specs.Enabled.{enabled_threads}
 use Rattle.schedule.specs.Schedules as schedules
 use Rattle.runs.specs.Choices.{after_turn, choices_from, first_then}
@@ -28,5 +28,5 @@ same (suc most) generator m =
     same_choice (enabled_threads m) generator (λ t. job_choices most (pcg32 generator).1 (after_turn m t)) (λ c t. choices_from most c (after_turn m t))
     (λ t. same most (pcg32 generator).1 (after_turn m t))
 
-pub are_seeded : (most seed number : ℕ) (m : Machine) → job_choices most (generator_of seed number) m ≡ choices_from most (opened (schedules.Seeded seed number)) m
+pub are_seeded : (most seed number : ℕ) (m : Machine) → job_choices most (generator_of seed number) m ≡ choices_from most (chooser_of_schedule (schedules.Seeded seed number)) m
 are_seeded most seed number m = same most (generator_of seed number) m

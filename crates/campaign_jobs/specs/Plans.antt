@@ -1,12 +1,12 @@
 -- Defines which plans fit a program, and which random words their jobs have.
 use Rattle.std.specs.Prelude.{ℕ, ◌+◌, ◌%◌, ◌^◌, Bool, List, is_ok}
 use Rattle.jvms_program.specs.declared.program.Class.{Class}
-use Rattle.jvms_machine.specs.Opening.{made}
+use Rattle.jvms_machine.specs.Opening.{start_of_entry}
 use Rattle.campaign_jobs.specs.declared.plan.Plan.{Plan}
 
 -- Decides whether a machine of the program can be made with the plan's limits and entry.
 abbrev pub fits : List Class → Plan → Bool
-fits program plan = is_ok (made program plan.limits plan.entry)
+fits program plan = is_ok (start_of_entry program plan.limits plan.entry)
 
 -- Returns the stream of a job's random words. Streams are counted from the first job's, modulo their number.
 abbrev pub stream_of : Plan → ℕ → ℕ

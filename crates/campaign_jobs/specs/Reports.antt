@@ -2,14 +2,14 @@
 use Rattle.std.specs.Prelude.{◌≡◌, ℕ, List, length, Result, Ok, Err}
 use Rattle.jvms_file.specs.Results.{◌>>=◌}
 use Rattle.jvms_program.specs.declared.program.Class.{Class}
-use Rattle.jvms_machine.specs.Opening.{StartFault, made}
+use Rattle.jvms_machine.specs.Opening.{StartFault, start_of_entry}
 use Rattle.jvms_machine.specs.Start.{Start}
 use Rattle.machine.specs.Started.{opened}
 use Rattle.schedule.specs.Choosers.{generator_of}
 use Rattle.velodrome.specs.Cycles.{AreAtomic, IsCycle}
 use Rattle.velodrome.specs.Rearrangements.{IsRearrangement, IsSerial}
 use Rattle.velodrome.specs.Specification.{Specification}
-use Rattle.velodrome.specs.Transactions.{walk}
+use Rattle.velodrome.specs.Transactions.{trace_state_of}
 use Rattle.program_runs.specs.Shown.{Shown, view_of_choices}
 use Rattle.campaign_jobs.specs.declared.plan.Plan.{Plan}
 use Rattle.campaign_jobs.specs.declared.result.JobResult.{JobResult}
@@ -26,15 +26,15 @@ job_from program plan number start =
 -- Returns what the run of a job shows, or why no machine is made for it.
 unfoldable pub job_shown : List Class → Plan → ℕ → Result Shown StartFault
 job_shown program plan number = do
-  start ← made program plan.limits plan.entry
+  start ← start_of_entry program plan.limits plan.entry
   Ok (job_from program plan number start)
 
 -- The result is that of a run under a specification: its atomicity, status, and numbers of turns and of events.
 pub record IsResultOn (lines : Specification) (shown : Shown) (r : JobResult) : Type 0 where
-  pub atomicity : IsAtomicityOf (walk lines shown.items).events r.atomicity
+  pub atomicity : IsAtomicityOf (trace_state_of lines shown.items).events r.atomicity
   pub status : r.status ≡ shown.status
   pub turns : r.turns ≡ length shown.choices
-  pub events : r.events ≡ length (walk lines shown.items).events
+  pub events : r.events ≡ length (trace_state_of lines shown.items).events
 
 -- There is a run, and the result is its result under a specification.
 abbrev pub IsResultIn : Specification → Result Shown StartFault → JobResult → Type 0
@@ -48,13 +48,13 @@ IsResultOf program plan number r = ∥ IsResultIn plan.spec (job_shown program p
 -- There is a run, its events have no cycle, and these are their numbers in a serial order.
 abbrev pub IsSerialIn : Specification → Result Shown StartFault → List ℕ → Type 0
 IsSerialIn lines (Ok shown) numbers =
-    let events = (walk lines shown.items).events in AreAtomic events × IsSerial events numbers
+    let events = (trace_state_of lines shown.items).events in AreAtomic events × IsSerial events numbers
 IsSerialIn lines (Err why) numbers = ⊥
 
 -- There is a run, its events have a cycle, and no rearrangement of them is serial.
 abbrev pub HasNoneIn : Specification → Result Shown StartFault → Type 0
 HasNoneIn lines (Ok shown) =
-    let events = (walk lines shown.items).events in
+    let events = (trace_state_of lines shown.items).events in
     ((transactions : List ℕ) × IsCycle events transactions) × ((numbers : List ℕ) → IsRearrangement events numbers → ⊥)
 HasNoneIn lines (Err why) = ⊥
 

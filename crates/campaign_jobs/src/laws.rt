@@ -4,7 +4,7 @@ ghost use Rattle.std.specs.Prelude.{◌≡◌, ℕ, ◌+◌, List};
 ghost use Rattle.jvms_program.specs.declared.program.Class.{Class};
 ghost use Rattle.machine.specs.Machine.{Machine};
 ghost use Rattle.runs.specs.Choices.{choices_from};
-ghost use Rattle.schedule.specs.Choosers.{generator_of, opened};
+ghost use Rattle.schedule.specs.Choosers.{generator_of, chooser_of_schedule};
 ghost use Rattle.schedule.specs.Schedules.{Seeded};
 ghost use Rattle.campaign_jobs.specs.declared.plan.Plan.{Plan};
 ghost use Rattle.campaign_jobs.specs.declared.result.JobResult.{JobResult};
@@ -17,7 +17,7 @@ ghost use Rattle.campaign_jobs.specs.Reports.{IsResultOf, job_shown};
 #[tactic(auto, using(crate::proofs::SeededChoices::are_seeded))]
 pub fn job_choices_are_seeded()
     ensures { (most seed number : ℕ) (m : Machine) → job_choices most (generator_of seed number) m
-        ≡ choices_from most (opened (Seeded seed number)) m }
+        ≡ choices_from most (chooser_of_schedule (Seeded seed number)) m }
 {}
 
 /// Proves that a job has at most one result: any two are equal.

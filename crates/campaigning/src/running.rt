@@ -1,12 +1,12 @@
 //! The campaign of a program from class files and sources.
 
 ghost use Rattle.std.specs.Prelude.{◌≡◌, ◌≢◌, length, IfErr, IfOk, IsTrue, OnOk};
-ghost use Rattle.jvms_machine.specs.Opening.{made};
+ghost use Rattle.jvms_machine.specs.Opening.{start_of_entry};
 ghost use Rattle.program_runs.specs.Faults.{IsProgramFault};
 ghost use Rattle.campaign.specs.Tables.{IsTable};
 ghost use Rattle.campaign_jobs.specs.Plans.{fits};
 ghost use Rattle.campaign_desk.specs.Limits.{FitsLimits};
-ghost use Rattle.campaigning.specs.Campaigns.{IsTableOf, fitted, program_for};
+ghost use Rattle.campaigning.specs.Campaigns.{IsTableOf, fitting_program, program_for};
 ghost use Rattle.campaigning.specs.Faults.{IsFault, IsHalt, NamesFile};
 
 use crate::fault::CampaignFault;
@@ -24,7 +24,7 @@ use std::thread::Threads;
 fn fit(alloc: Global, program: &Program, plan: &Plan) -> Result<(), ProgramFault>
     ensures fits { OnOk result (IsTrue (fits program.now plan.now)) }
     ensures fault { IfErr result (λ fault.
-        IsProgramFault fault (made program.now plan.now.limits plan.now.entry)) }
+        IsProgramFault fault (start_of_entry program.now plan.now.limits plan.now.entry)) }
 {
     let machine = Machine::new(alloc, program, plan.limits, &plan.entry)?;
     drop(machine);
@@ -69,10 +69,10 @@ fn run_plan<G: Gate + Sync, R: Threads + Wait + Sync>(
     gate: &G,
 ) -> Result<Table, CampaignFault>
     ensures table { IfOk result (λ table.
-        IsTableOf plan.now (fitted plan.now program.now) table.results.items) }
+        IsTableOf plan.now (fitting_program plan.now program.now) table.results.items) }
     ensures limits { OnOk result (FitsLimits plan.now.jobs workers) }
     ensures fault { IfErr result (λ fault.
-        IsFault plan.now.jobs workers fault (fitted plan.now program.now)) }
+        IsFault plan.now.jobs workers fault (fitting_program plan.now program.now)) }
     ensures named { IfErr result (λ fault. NamesFile 0 fault) }
     ensures unwritten { IfErr result (λ fault. fault ≢ CampaignFault.Output) }
 {

@@ -4,4 +4,4 @@ use Rattle.class_file.specs.declared.content.Content.{Content}
 
 -- Returns the content with its bytes as values.
 abbrev pub framed_by : Content → AttributeFrame
-framed_by c = record { whole = c.whole; cut = c.cut; content = c.bytes.now; behind = c.behind.now }
+framed_by c = record { whole = c.whole; cut = c.cut; content = c.bytes.now; after = c.after.now }

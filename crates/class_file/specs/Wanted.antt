@@ -9,7 +9,7 @@ use Rattle.jvms_file.specs.declared.class_file.MethodAttribute.TheVariants as me
 use Rattle.jvms_file.specs.declared.class_file.MethodInfo.{MethodInfo}
 use Rattle.jvms_file.specs.declared.fault.ClassFault.{ClassFault}
 use Rattle.jvms_file.specs.declared.fault.ClassFault.TheVariants as fault
-use Rattle.jvms_file.specs.Results.{◌>>=◌, want, present, counted, part_list_onto}
+use Rattle.jvms_file.specs.Results.{◌>>=◌, want, present, part_list, part_list_onto}
 use Rattle.jvms_file.specs.Bytes.{u2_at, bytes_at}
 use Rattle.jvms_file.specs.Code.{handler_places}
 use Rattle.jvms_file.specs.ConstantPool.{utf8_at, is_utf8}
@@ -48,7 +48,7 @@ code_bytes_at cut code_length bytes = do
 abbrev pub exception_table_at : List Constant → ClassFault → List ℕ → Result (List Handler × List ℕ) ClassFault
 exception_table_at pool cut bytes = do
   count ← u2_at cut bytes
-  counted (handler_at pool cut) count.0 count.1
+  part_list (handler_at pool cut) count.0 count.1
 
 -- Returns an entry of the table with places for bytes.
 abbrev pub handler_placed : List ℕ → ℕ → Handler → Result Handler ClassFault
@@ -58,7 +58,7 @@ handler_placed starts code_length handler = present (handler_places starts code_
 abbrev pub classes_at : List Constant → ClassFault → List ℕ → Result (List ℕ × List ℕ) ClassFault
 classes_at pool cut bytes = do
   count ← u2_at cut bytes
-  counted (class_number_at pool cut) count.0 count.1
+  part_list (class_number_at pool cut) count.0 count.1
 
 -- Reads a Code attribute, after its name.
 abbrev pub code_attribute_at : List Constant → ℕ → ClassFault → ℕ → List ℕ → Result (MethodAttribute × List ℕ) ClassFault

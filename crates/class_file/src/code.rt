@@ -100,7 +100,7 @@ fn with_places(starts: &Starts, code_length: usize, entry: Handler) -> Result<Ha
 }
 
 /// Returns the entries of the exception table with places for bytes.
-fn placed(
+fn handlers_of(
     alloc: Global,
     starts: &Starts,
     code_length: usize,
@@ -137,7 +137,7 @@ pub(crate) fn code_at<'a>(
     let (attributes, rest) = kept_attributes_at(alloc, pool.pool(), content.cut, rest)?;
     want_all(content, rest)?;
     let decoded = decode(alloc, pool, major, bytes)?;
-    let handlers = placed(
+    let handlers = handlers_of(
         alloc,
         &decoded.starts,
         code_length as usize,
@@ -152,7 +152,7 @@ pub(crate) fn code_at<'a>(
         handlers,
         attributes,
     };
-    Ok((code, content.behind))
+    Ok((code, content.after))
 }
 
 /// The reader of numbers of Class entries in a class with this pool. `cut` is the fault of missing bytes.
@@ -201,5 +201,5 @@ pub(crate) fn exceptions_at<'a>(
 {
     let (classes, rest) = classes_at(alloc, pool, content.cut, content.bytes)?;
     want_all(content, rest)?;
-    Ok((classes, content.behind))
+    Ok((classes, content.after))
 }

@@ -2,7 +2,7 @@
 
 ghost use Rattle.std.specs.Prelude.{◌≡◌};
 ghost use Rattle.file_bytes.specs.Reading.{Finds};
-ghost use Rattle.jvms_file.specs.Members.{framed, frame_at, want_all};
+ghost use Rattle.jvms_file.specs.Members.{attribute_frame, frame_at, want_all};
 ghost use Rattle.class_file.specs.Contents.{framed_by};
 
 use file_bytes::{u4_at, want};
@@ -17,27 +17,27 @@ pub(crate) struct Content<'a> {
     /// The fault of missing bytes.
     pub(crate) cut: ClassFault,
     pub(crate) bytes: &'a [u8],
-    pub(crate) behind: &'a [u8],
+    pub(crate) after: &'a [u8],
 }
 
 /// Returns the content of `count` bytes.
 fn content_of(cut: ClassFault, count: usize, bytes: &[u8]) -> Content<'_>
-    ensures { framed_by result ≡ framed cut count bytes.now }
+    ensures { framed_by result ≡ attribute_frame cut count bytes.now }
 {
     if count <= bytes.len() {
-        let (content, behind) = bytes.split_at(count);
+        let (content, after) = bytes.split_at(count);
         Content {
             whole: true,
             cut: ClassFault::AttributeLength,
             bytes: content,
-            behind,
+            after,
         }
     } else {
         Content {
             whole: false,
             cut,
             bytes,
-            behind: &bytes[bytes.len()..],
+            after: &bytes[bytes.len()..],
         }
     }
 }

@@ -62,10 +62,7 @@ fn constant_value<'a>(
     let (value, rest) = u2_at(content.cut, content.bytes)?;
     want(is_its_constant(pool, descriptor, value), ClassFault::Index)?;
     want_all(content, rest)?;
-    Ok((
-        FieldAttribute::ConstantValue { name, value },
-        content.behind,
-    ))
+    Ok((FieldAttribute::ConstantValue { name, value }, content.after))
 }
 
 /// Decides whether a ConstantValue is among attributes.

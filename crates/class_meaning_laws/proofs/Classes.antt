@@ -18,7 +18,7 @@ use Rattle.pool_entries.proofs.Lookups.{IsKept-reflexive, IsKept-transitive, cla
 use Rattle.assembly.specs.declared.fault.AsmFault.TheVariants as fault
 use Rattle.assembly.specs.Named.{AreClasses}
 use Rattle.assembly.specs.Operands.{classes_onto}
-use Rattle.assembly.specs.Assembled.{fields_onto, methods_onto, assembled}
+use Rattle.assembly.specs.Assembled.{fields_onto, methods_onto, class_file_of}
 use Rattle.assembled_entry_laws.proofs.Steps.{step, want_step, same_Ok}
 use Rattle.assembled_entry_laws.proofs.Entries.{class_is_entered}
 use Rattle.assembled_entry_laws.proofs.Keeping.{classes-kept}
@@ -54,8 +54,8 @@ class_is s pool this super interfaces fields methods named above are fielded met
     ∙ ap (λ fs. class_by s s.name (Some s.superclass) s.interfaces fs (map (method_of pool) methods)) fielded
     ∙ ap (class_by s s.name (Some s.superclass) s.interfaces (map (denoted_field (is_interface s.access)) s.fields)) methoded
 
-pub assembled_means : (s : Source) (c : ClassFile) → assembled s ≡ Ok c → meaning c ≡ denote s
-unfolding assembled
+pub assembled_means : (s : Source) (c : ClassFile) → class_file_of s ≡ Ok c → meaning c ≡ denote s
+unfolding class_file_of
 assembled_means s c gives =
     want_step (not (has_too_many s)) fault.TooMany _ _ gives λ few e.
     numbered_step (class_entry [] s.name) _ _ e λ this named e1.

@@ -6,12 +6,12 @@ use Rattle.pool_entries.specs.declared.fault.EntryFault.{EntryFault}
 use Rattle.pool_entries.specs.Kept.{IsKept}
 use Rattle.pool_entries.proofs.Lookups.{IsKept-reflexive, IsKept-transitive}
 use Rattle.assembly.specs.declared.fault.AsmFault.{AsmFault}
-use Rattle.assembly.specs.Faults.{numbered}
+use Rattle.assembly.specs.Faults.{with_source_fault}
 use Rattle.assembled_entry_laws.proofs.Steps.{same_Ok}
 use Rattle.class_meaning_laws.proofs.Names.{same_lists}
 
 -- A sequence whose first step adds entries has a value only if that step has one.
-pub numbered_step : {A B : Type 0} {G : Type 0} (r : Result A EntryFault) (f : A → Result B AsmFault) (y : B) → (numbered r >>= f) ≡ Ok y → ((x : A) → r ≡ Ok x → f x ≡ Ok y → G) → G
+pub numbered_step : {A B : Type 0} {G : Type 0} (r : Result A EntryFault) (f : A → Result B AsmFault) (y : B) → (with_source_fault r >>= f) ≡ Ok y → ((x : A) → r ≡ Ok x → f x ≡ Ok y → G) → G
 numbered_step (Ok x) f y e next = next x refl e
 numbered_step (Err d) f y e next = absurd cc
 

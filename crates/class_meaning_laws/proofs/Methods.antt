@@ -21,7 +21,7 @@ use Rattle.pool_entries.specs.Kept.{IsKept}
 use Rattle.pool_entries.proofs.Lookups.{IsKept-reflexive, IsKept-transitive, utf8_at-kept}
 use Rattle.assembly.specs.Operands.{operands_onto, catches_onto, classes_onto}
 use Rattle.assembly.specs.CodeOf.{code_within}
-use Rattle.assembly.specs.Assembled.{labels_judged, code_attribute, code_attributes, throws_attributes, method_info, methods_onto}
+use Rattle.assembly.specs.Assembled.{judge_labels, code_attribute, code_attributes, throws_attributes, method_info, methods_onto}
 use Rattle.assembled_entry_laws.proofs.Steps.{step, choose, same_Ok}
 use Rattle.assembled_entry_laws.proofs.Entries.{text_is_entered}
 use Rattle.assembled_entry_laws.proofs.Keeping.{operands-kept, catches-kept, classes-kept}
@@ -155,7 +155,7 @@ method_is m n d attributes final name descriptor throws body =
 method_means : (pool : List Constant) (m : MethodLines) (r : MethodInfo × List Constant) → length pool ≤ 65534 → method_info pool m ≡ Ok r → Means method_of pool (denoted_method m) r
 unfolding method_info
 method_means pool m r few gives =
-    step (labels_judged m) _ _ gives λ judged is_judged e.
+    step (judge_labels m) _ _ gives λ judged is_judged e.
     numbered_step (text_entry pool m.name) _ _ e λ name named e1.
     numbered_step (text_entry name.1 m.descriptor) _ _ e1 λ descriptor described e2.
     step (code_attributes descriptor.1 m) _ _ e2 λ code coded e3.

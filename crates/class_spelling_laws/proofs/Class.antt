@@ -16,7 +16,7 @@ use Rattle.pool_entries.specs.Entries.{AreProper, class_entry}
 use Rattle.pool_entries.proofs.Lookups.{IsKept-transitive}
 use Rattle.assembly.specs.Named.{NamesClass, AreClasses}
 use Rattle.assembly.specs.Operands.{classes_onto}
-use Rattle.assembly.specs.Assembled.{fields_onto, methods_onto, assembled}
+use Rattle.assembly.specs.Assembled.{fields_onto, methods_onto, class_file_of}
 use Rattle.source_form_laws.specs.Formed.{IsClassOrArray, IsFormedFieldLine, IsFormedMethodLines, IsFormed}
 use Rattle.classfile_laws.proofs.Steps.{step, want_step}
 use Rattle.assembled_entry_laws.proofs.Keeping.{class-kept, classes-kept}
@@ -89,8 +89,8 @@ record IsClassOf (c : ClassFile) (s : Source) : Type 0 where
   attributes : c.attributes ≡ []
   few : IsFewIn s
 
-class_is_of : (s : Source) (c : ClassFile) → assembled s ≡ Ok c → IsFormed s → IsClassOf c s
-unfolding assembled
+class_is_of : (s : Source) (c : ClassFile) → class_file_of s ≡ Ok c → IsFormed s → IsClassOf c s
+unfolding class_file_of
 class_is_of s c gives form =
     want_step (not (has_too_many s)) _ _ _ gives λ few more.
     numbered_step (class_entry [] s.name) _ _ more λ this named more2.
@@ -164,5 +164,5 @@ spelled s c is form proper =
       },
     )
 
-pub class_is_spelled : (s : Source) (c : ClassFile) → assembled s ≡ Ok c → IsFormed s → AreProper c.pool → (bytes : List ℕ) × Spells bytes c
+pub class_is_spelled : (s : Source) (c : ClassFile) → class_file_of s ≡ Ok c → IsFormed s → AreProper c.pool → (bytes : List ℕ) × Spells bytes c
 class_is_spelled s c gives form proper = spelled s c (class_is_of s c gives form) form proper

@@ -7,7 +7,7 @@ use Rattle.std.proofs.lemmas.Int.{to_z-of_z}
 use Rattle.std.proofs.Math.Facts.{Fits-of_z}
 use Rattle.jvms_file.specs.declared.class_file.Constant.{Constant}
 use Rattle.jvms_file.specs.declared.class_file.Constant.TheVariants as constant
-use Rattle.jvms_file.specs.Texts.{encoded}
+use Rattle.jvms_file.specs.Texts.{bytes_of_text}
 use Rattle.jvms_file.specs.Spelling.{u2, u4, u8, SpellsConstant, SpellsPool}
 use Rattle.pool_entries.specs.Entries.{IsProper, AreProper}
 use Rattle.source_form_laws.specs.Formed.{IsSigned}
@@ -43,8 +43,8 @@ long_spelled n is =
 -- Bytes spell an entry without fault, if the units of its text have 16 bits.
 constant_spelled : (pool : List Constant) (c : Constant) → IsWell pool c × IsProper c → IsSpelled SpellsConstant c
 constant_spelled pool (constant.Utf8 text) is =
-    let short : length (encoded text) ≤ 65535 = leb-true (length (encoded text)) 65535 is.0 in
-    (1 ∷ u2 (length (encoded text)) ++ encoded text, (is.1, omega arith, refl))
+    let short : length (bytes_of_text text) ≤ 65535 = leb-true (length (bytes_of_text text)) 65535 is.0 in
+    (1 ∷ u2 (length (bytes_of_text text)) ++ bytes_of_text text, (is.1, omega arith, refl))
 constant_spelled pool (constant.Integer n) is = int_spelled n is.0
 constant_spelled pool (constant.Long n) is = long_spelled n is.0
 constant_spelled pool (constant.Class n) is = let well = is.0 in (7 ∷ u2 n, (well.0, refl))

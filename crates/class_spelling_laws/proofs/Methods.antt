@@ -17,7 +17,7 @@ use Rattle.pool_entries.specs.Entries.{text_entry}
 use Rattle.pool_entries.specs.Kept.{IsKept}
 use Rattle.pool_entries.proofs.Lookups.{IsKept-reflexive, IsKept-transitive}
 use Rattle.assembly.specs.declared.fault.AsmFault.TheVariants as fault
-use Rattle.assembly.specs.Assembled.{labels_judged, code_attributes, throws_attributes, method_info, methods_onto}
+use Rattle.assembly.specs.Assembled.{judge_labels, code_attributes, throws_attributes, method_info, methods_onto}
 use Rattle.source_form_laws.specs.Formed.{IsFormedMethodLines}
 use Rattle.classfile_laws.proofs.Steps.{step, want_step}
 use Rattle.class_spelling_laws.proofs.Steps.{same_Ok, numbered_step, want_held}
@@ -57,8 +57,8 @@ method-kept old new info m kept is = record {
 
 -- ---- Each method has these parts
 
-labels_sound : (m : MethodLines) (u : Unit {0}) → labels_judged m ≡ Ok u → (has_undefined_label m ≡ false) × (has_bad_range m ≡ false)
-unfolding labels_judged
+labels_sound : (m : MethodLines) (u : Unit {0}) → judge_labels m ≡ Ok u → (has_undefined_label m ≡ false) × (has_bad_range m ≡ false)
+unfolding judge_labels
 labels_sound m u gives =
     want_step (not (repeats_label m.code)) _ _ _ gives λ once more.
     want_step (not (has_undefined_label m)) _ _ _ more λ defined last.
@@ -70,7 +70,7 @@ MethodMade pool m r = Made pool r.1 (IsMethodOf r.1 r.0 m)
 method_made : (interface : Bool) (pool : List Constant) (m : MethodLines) (r : MethodInfo × List Constant) → IsGood pool → IsFormedMethodLines interface m → method_info pool m ≡ Ok r → MethodMade pool m r
 unfolding method_info
 method_made interface pool m r good form gives =
-    step (labels_judged m) _ _ gives λ judged is_judged more.
+    step (judge_labels m) _ _ gives λ judged is_judged more.
     numbered_step (text_entry pool m.name) _ _ more λ name named more2.
     numbered_step (text_entry name.1 m.descriptor) _ _ more2 λ descriptor described more3.
     step (code_attributes descriptor.1 m) _ _ more3 λ code coded more4.

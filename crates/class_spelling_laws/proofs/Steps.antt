@@ -4,7 +4,7 @@ use Rattle.std.proofs.lemmas.Bool.{false≢true}
 use Rattle.jvms_file.specs.Results.{◌>>=◌, want}
 use Rattle.pool_entries.specs.declared.fault.EntryFault.{EntryFault}
 use Rattle.assembly.specs.declared.fault.AsmFault.{AsmFault}
-use Rattle.assembly.specs.Faults.{fault_of, numbered}
+use Rattle.assembly.specs.Faults.{fault_of, with_source_fault}
 
 -- Equal results without a fault have equal values.
 pub same_Ok : {A E : Type 0} (x y : A) → ◌≡◌ {A = Result A E} (Ok x) (Ok y) → x ≡ y
@@ -15,7 +15,7 @@ pub no_answer : {A E : Type 0} {G : Type 0} (d : E) (x : A) → ◌≡◌ {A = R
 no_answer d x e = absurd cc
 
 -- A sequence whose first step adds entries has a value only if that step has one.
-pub numbered_step : {A B : Type 0} {G : Type 0} (r : Result A EntryFault) (f : A → Result B AsmFault) (y : B) → (numbered r >>= f) ≡ Ok y → ((x : A) → r ≡ Ok x → f x ≡ Ok y → G) → G
+pub numbered_step : {A B : Type 0} {G : Type 0} (r : Result A EntryFault) (f : A → Result B AsmFault) (y : B) → (with_source_fault r >>= f) ≡ Ok y → ((x : A) → r ≡ Ok x → f x ≡ Ok y → G) → G
 numbered_step (Ok x) f y e next = next x refl e
 numbered_step (Err d) f y e next = no_answer (fault_of d) y e
 

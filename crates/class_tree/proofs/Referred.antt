@@ -11,7 +11,7 @@ use Rattle.jvms_file.specs.declared.class_file.Handler.{Handler}
 use Rattle.jvms_file.specs.declared.class_file.Code.{Code}
 use Rattle.jvms_file.specs.declared.insn.Insn.{Insn}
 use Rattle.listing_spec.specs.TreeOf.{targets_of, is_bound, is_referred}
-use Rattle.class_tree.specs.Marks.{marked, with_marks, with_insn_marks, with_bound_marks, with_handler_marks, marks_of}
+use Rattle.class_tree.specs.Marks.{with_mark, with_marks, with_insn_marks, with_bound_marks, with_handler_marks, marks_of}
 
 or-true : (b : Bool) → (b || true) ≡ true
 or-true true = refl
@@ -31,10 +31,10 @@ set_length : (test : Bool) (place : ℕ) (marks : List Bool) → length (cond te
 set_length true place marks = length-set marks place true
 set_length false place marks = refl
 
-marked_length : (place : ℕ) (marks : List Bool) → length (marked place marks) ≡ length marks
+marked_length : (place : ℕ) (marks : List Bool) → length (with_mark place marks) ≡ length marks
 marked_length place marks = set_length (nat_lt place (length marks)) place marks
 
-marked_same : (p : ℕ) (marks : List Bool) → p < length marks → get_or (marked p marks) p false ≡ true
+marked_same : (p : ℕ) (marks : List Bool) → p < length marks → get_or (with_mark p marks) p false ≡ true
 marked_same p marks within =
     let test : nat_lt p (length marks) ≡ true = grind (arith, nat_tests) in rw test (get_or-set_same marks p true false within)
 
@@ -43,7 +43,7 @@ set_other true place p marks other = get_or-set_other marks place p true false o
 set_other false place p marks other = refl
 
 -- A mark is set if it was or its place is marked.
-marked_at : (place p : ℕ) (marks : List Bool) → p < length marks → get_or (marked place marks) p false ≡ (get_or marks p false || (place == p))
+marked_at : (place p : ℕ) (marks : List Bool) → p < length marks → get_or (with_mark place marks) p false ≡ (get_or marks p false || (place == p))
 marked_at place p marks within =
     ⊎_elim
     (λ (same : place ≡ p).
@@ -58,13 +58,13 @@ marked_at place p marks within =
 
 all_length : (places : List ℕ) (marks : List Bool) → length (with_marks places marks) ≡ length marks
 all_length [] marks = refl
-all_length (place ∷ places) marks = all_length places (marked place marks) ∙ marked_length place marks
+all_length (place ∷ places) marks = all_length places (with_mark place marks) ∙ marked_length place marks
 
 all_at : (places : List ℕ) (p : ℕ) (marks : List Bool) → p < length marks → get_or (with_marks places marks) p false ≡ (get_or marks p false || list_any (λ t. t == p) places)
 all_at [] p marks within = sym (or-false (get_or marks p false))
 all_at (place ∷ places) p marks within =
-    let there : p < length (marked place marks) = rw (marked_length place marks) within in
-    all_at places p (marked place marks) there
+    let there : p < length (with_mark place marks) = rw (marked_length place marks) within in
+    all_at places p (with_mark place marks) there
     ∙ ap (λ b. b || list_any (λ t. t == p) places) (marked_at place p marks within)
     ∙ or_assoc (get_or marks p false) (place == p) (list_any (λ t. t == p) places)
 

@@ -6,19 +6,19 @@ use Rattle.jvms_file.specs.declared.insn.Insn.{Insn}
 use Rattle.listing_spec.specs.TreeOf.{targets_of}
 
 -- Marks one more place. A place without a mark is ignored.
-abbrev pub marked : ℕ → List Bool → List Bool
-marked place marks = if nat_lt place (length marks) then slice_set marks place true else marks
+abbrev pub with_mark : ℕ → List Bool → List Bool
+with_mark place marks = if nat_lt place (length marks) then slice_set marks place true else marks
 
 abbrev pub with_marks : List ℕ → List Bool → List Bool
 with_marks [] marks = marks
-with_marks (place ∷ places) marks = with_marks places (marked place marks)
+with_marks (place ∷ places) marks = with_marks places (with_mark place marks)
 
 abbrev pub with_insn_marks : List Insn → List Bool → List Bool
 with_insn_marks [] marks = marks
 with_insn_marks (i ∷ is) marks = with_insn_marks is (with_marks (targets_of i) marks)
 
 abbrev pub with_bound_marks : Handler → List Bool → List Bool
-with_bound_marks h marks = marked h.target (marked h.end (marked h.start marks))
+with_bound_marks h marks = with_mark h.target (with_mark h.end (with_mark h.start marks))
 
 abbrev pub with_handler_marks : List Handler → List Bool → List Bool
 with_handler_marks [] marks = marks

@@ -1,7 +1,7 @@
 //! Converts fields (JVMS 4.5).
 
 ghost use Rattle.std.specs.Prelude.{◌≡◌};
-ghost use Rattle.jvms_file.specs.Results.{collected};
+ghost use Rattle.jvms_file.specs.Results.{results_of};
 ghost use Rattle.listing_spec.specs.Faults.{Lists};
 ghost use Rattle.listing_spec.specs.TreeOf.{field_flags, field_value, field_line};
 
@@ -54,7 +54,7 @@ pub(crate) fn field_lines(
     texts: &Texts<'_>,
     infos: &[FieldInfo],
 ) -> Result<Items<FieldLine>, ListFault>
-    ensures { Lists result (collected (field_line texts.now) infos.now) }
+    ensures { Lists result (results_of (field_line texts.now) infos.now) }
 {
     let mut lines = Items::new(alloc);
     let mut rest = infos;

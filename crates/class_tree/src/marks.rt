@@ -3,7 +3,7 @@
 ghost use Rattle.std.specs.Prelude.{◌≡◌, ◌≤◌, length, map, IfOk, replicate, suc, false, slice_get};
 ghost use Rattle.std.specs.Option.{unwrap_or};
 ghost use Rattle.listing_spec.specs.TreeOf.{targets_of, is_referred};
-ghost use Rattle.class_tree.specs.Marks.{marked, with_marks, with_insn_marks, with_bound_marks, with_handler_marks, marks_of};
+ghost use Rattle.class_tree.specs.Marks.{with_mark, with_marks, with_insn_marks, with_bound_marks, with_handler_marks, marks_of};
 
 use jvms_file::class_file::{Code, Handler};
 use jvms_file::insn::{Insn, SwitchCase};
@@ -32,7 +32,7 @@ impl<'c> Model for Marks<'c> {
 
 /// Marks a place. Does nothing for a place without a mark.
 fn mark(marks: &mut [bool], place: u32)
-    ensures { marks.new ≡ marked place marks.old }
+    ensures { marks.new ≡ with_mark place marks.old }
 {
     let place = place as usize;
     if place < marks.len() {

@@ -1,7 +1,7 @@
 //! Converts methods (JVMS 4.6).
 
 ghost use Rattle.std.specs.Prelude.{◌≡◌, IfOk, map};
-ghost use Rattle.jvms_file.specs.Results.{collected};
+ghost use Rattle.jvms_file.specs.Results.{results_of};
 ghost use Rattle.listing_spec.specs.Faults.{Lists};
 ghost use Rattle.listing_spec.specs.TreeOf.{method_flags, method_with, method_lines};
 
@@ -84,7 +84,7 @@ pub(crate) fn all_method_lines(
     texts: &Texts<'_>,
     infos: &[MethodInfo],
 ) -> Result<Items<MethodLines>, ListFault>
-    ensures { Lists result (collected (method_lines texts.now) infos.now) }
+    ensures { Lists result (results_of (method_lines texts.now) infos.now) }
 {
     let mut methods = Items::new(alloc);
     let mut rest = infos;

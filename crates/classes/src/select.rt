@@ -64,8 +64,8 @@ impl Classes {
         method_number_at(first_up(self, members_class(class), &Selectable { name, descriptor }))
     }
 
-    /// Selects the method for an invokespecial in the class `current` (JVMS 6.5 invokespecial). That is the one of
-    /// the number if it is a constructor, or if its named class is no superclass of `current`. Else it is selected from the
+    /// Selects the method for an invokespecial in the class `current` (JVMS 6.5 invokespecial). That is the one of the
+    /// number if it is a constructor, or if its named class is no superclass of `current`. Else it is selected from the
     /// superclass of `current` on.
     pub fn select_special(
         &self,

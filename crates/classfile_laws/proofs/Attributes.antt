@@ -11,7 +11,7 @@ use Rattle.jvms_file.specs.declared.fault.ClassFault.TheVariants as fault
 use Rattle.jvms_file.specs.Results.{◌>>=◌}
 use Rattle.jvms_file.specs.Names.{same_text}
 use Rattle.jvms_file.specs.ConstantPool.{utf8_at, is_utf8, is_class}
-use Rattle.jvms_file.specs.Members.{AttributeFrame, framed, frame_at, want_all, kept_content_at, kept_at, kept_attributes_at, is_named, is_text_with, class_number_at}
+use Rattle.jvms_file.specs.Members.{AttributeFrame, attribute_frame, frame_at, want_all, kept_content_at, kept_at, kept_attributes_at, is_named, is_text_with, class_number_at}
 use Rattle.jvms_file.specs.Spelling.{u2, u4, IsU2, IsU4, Counted, SpellsKept, SpellsFramed, SpellsClassNumber}
 use Rattle.classfile_laws.proofs.Numbers.{IsBytes, bytes_of_parts, u2_again, u4_again, bytes_again}
 use Rattle.classfile_laws.proofs.Steps.{Found, answered, joined, step, want_step, u2_step, u4_step, bytes_step}
@@ -96,7 +96,7 @@ kept_attributes_found pool cut attributes bytes rest are e =
 
 -- The frame of an attribute that is complete.
 abbrev pub whole_frame : List ℕ → List ℕ → AttributeFrame
-whole_frame content behind = record { whole = true; cut = fault.AttributeLength; content = content; behind = behind }
+whole_frame content behind = record { whole = true; cut = fault.AttributeLength; content = content; after = behind }
 
 -- The length of a complete attribute frames its content.
 pub frame_again : (cut : ClassFault) (content rest : List ℕ) → IsU4 (length content) → frame_at cut (u4 (length content) ++ (content ++ rest)) ≡ Ok (whole_frame content rest)
@@ -107,11 +107,11 @@ frame_again cut content rest fits =
 -- The frame at the front of bytes, if it is complete.
 pub record FoundFrame (bytes : List ℕ) (frame : AttributeFrame) : Type 0 where
   pub content : IsBytes frame.content
-  pub left : IsBytes frame.behind
-  pub parts : frame.whole ≡ true → IsU4 (length frame.content) × (bytes ≡ u4 (length frame.content) ++ (frame.content ++ frame.behind))
+  pub left : IsBytes frame.after
+  pub parts : frame.whole ≡ true → IsU4 (length frame.content) × (bytes ≡ u4 (length frame.content) ++ (frame.content ++ frame.after))
 
 -- A length that was read frames the content that is there.
-frame_of : (cut : ClassFault) (n : ℕ) (bytes rest : List ℕ) → IsU4 n → IsBytes rest → bytes ≡ u4 n ++ rest → FoundFrame bytes (framed cut n rest)
+frame_of : (cut : ClassFault) (n : ℕ) (bytes rest : List ℕ) → IsU4 n → IsBytes rest → bytes ≡ u4 n ++ rest → FoundFrame bytes (attribute_frame cut n rest)
 frame_of cut n bytes rest fits are parts =
     let halves = bytes_of_parts (take n rest) (drop n rest) (subst IsBytes (sym (take-append-drop n rest)) are) in
     record {
@@ -128,7 +128,7 @@ pub frame_step : {B : Type 0} {G : Type 0} (cut : ClassFault) (bytes : List ℕ)
 frame_step cut bytes f y are e next =
     step (frame_at cut bytes) f y e (λ frame is more.
     u4_step cut bytes _ _ are is (λ n rest fits parts left last.
-    let same : framed cut n rest ≡ frame = cc in
+    let same : attribute_frame cut n rest ≡ frame = cc in
     next frame (subst (FoundFrame bytes) same (frame_of cut n bytes rest fits left parts)) more))
 
 -- All of a frame's content was read.
@@ -139,14 +139,14 @@ want_all_step frame (b ∷ left) f y e next = absurd cc
 
 -- An attribute whose content was read in its frame is spelled there, with its name and its length.
 pub framed_found : (pool : List Constant) (text : List ℕ) (name : ℕ) (bytes behind : List ℕ) (frame : AttributeFrame) (Content : List ℕ → Type 0) (rest : List ℕ)
-    → IsU2 name → is_named pool name text ≡ true → bytes ≡ u2 name ++ behind → FoundFrame behind frame → frame.whole ≡ true → Content frame.content → frame.behind ≡ rest
+    → IsU2 name → is_named pool name text ≡ true → bytes ≡ u2 name ++ behind → FoundFrame behind frame → frame.whole ≡ true → Content frame.content → frame.after ≡ rest
     → Found (λ first n. SpellsFramed pool text n first Content) bytes name rest
 framed_found pool text name bytes behind frame Content rest fits named parts found whole spells same =
     let inner = found.parts whole in
     let size = length frame.content in
     record {
       first = u2 name ++ (u4 size ++ frame.content);
-      parts = joined (u2 name) (u4 size ++ frame.content) rest bytes behind frame.behind parts (inner.1 ∙ sym (append_assoc (u4 size) frame.content frame.behind)) same;
+      parts = joined (u2 name) (u4 size ++ frame.content) rest bytes behind frame.after parts (inner.1 ∙ sym (append_assoc (u4 size) frame.content frame.after)) same;
       spells = (fits, named, frame.content, inner.0, spells, refl);
       left = subst IsBytes same found.left;
     }

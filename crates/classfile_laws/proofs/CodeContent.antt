@@ -62,7 +62,7 @@ code_again pool major content c rest s =
 pub record FoundCode (pool : List Constant) (major : ℕ) (frame : AttributeFrame) (c : Code) (rest : List ℕ) : Type 0 where
   pub whole : frame.whole ≡ true
   pub spells : SpellsCode pool major frame.content c
-  pub behind : frame.behind ≡ rest
+  pub behind : frame.after ≡ rest
 
 -- Code that was read in a frame is all of its content.
 pub code_found : (pool : List Constant) (major : ℕ) → (frame : AttributeFrame) (c : Code) (rest : List ℕ) → IsBytes frame.content → code_at pool major frame ≡ Ok (c, rest) → FoundCode pool major frame c rest
@@ -80,7 +80,7 @@ code_found pool major frame c rest are e =
     step (handlers_of insns.0 n bounds) _ _ e9 (λ handlers handlers_are last.
     let pcs = insns.0 in
     let made : Code = record { max_stack = max_stack; max_locals = max_locals; layout = layout_of pcs insns.1 code; insns = insns.1; handlers = handlers; attributes = attributes } in
-    let same = answered made c frame.behind rest last in
+    let same = answered made c frame.after rest last in
     let sized : is_code_length (length code) ≡ true = subst (λ (k : ℕ). is_code_length k ≡ true) (sym length_is) size in
     let two = bounded.1 in
     let placed = handlers_found pool pcs n two.1 bounds handlers two.4 handlers_are in

@@ -7,7 +7,7 @@ use Rattle.jvms_file.specs.declared.fault.ClassFault.TheVariants as fault
 use Rattle.jvms_file.specs.declared.insn.Insn.{Insn}
 use Rattle.jvms_file.specs.Results.{present}
 use Rattle.jvms_file.specs.Instructions.{insn_at}
-use Rattle.jvms_file.specs.Code.{InsnAtByte, insns_at_bytes_from, placed, starts, with_places, resolved, insns_of}
+use Rattle.jvms_file.specs.Code.{InsnAtByte, insns_at_bytes_from, insns_at_bytes, starts, with_places, insns_with_places, insns_of}
 use Rattle.jvms_file.specs.Spelling.{SpellsFrom, SpellsInsns}
 use Rattle.classfile_laws.proofs.Numbers.{IsBytes}
 use Rattle.classfile_laws.proofs.InsnStarts.{AreStarts, insn_takes, starts_of}
@@ -21,7 +21,7 @@ record PlacedAgain (most : ℕ) (pool : List Constant) (major : ℕ) (pcs : List
   found : List InsnAtByte
   reads : insns_at_bytes_from most pool major pc bytes ≡ Ok found
   begins : starts found ≡ begun
-  places : resolved pcs found ≡ Ok is
+  places : insns_with_places pcs found ≡ Ok is
 
 none_again : (most : ℕ) (pool : List Constant) (major : ℕ) (pcs : List ℕ) (pc : ℕ) → PlacedAgain most pool major pcs pc [] [] []
 unfolding insns_at_bytes_from
@@ -77,7 +77,7 @@ found_below pool major pcs pc bytes rest i one =
     let size : length bytes ≡ length one.first + length rest = ap length one.whole ∙ length-append one.first rest in
     omega arith
 
-none_found : (pool : List Constant) (major : ℕ) (pcs : List ℕ) (pc : ℕ) (found : List InsnAtByte) (is : List Insn) → ◌≡◌ {A = Result (List InsnAtByte) ClassFault} (Ok []) (Ok found) → resolved pcs found ≡ Ok is → SpellsFrom pool major pcs pc [] is (starts found)
+none_found : (pool : List Constant) (major : ℕ) (pcs : List ℕ) (pc : ℕ) (found : List InsnAtByte) (is : List Insn) → ◌≡◌ {A = Result (List InsnAtByte) ClassFault} (Ok []) (Ok found) → insns_with_places pcs found ≡ Ok is → SpellsFrom pool major pcs pc [] is (starts found)
 none_found pool major pcs pc [] [] h placed = (refl, refl)
 none_found pool major pcs pc [] (i ∷ is) h placed = absurd cc
 none_found pool major pcs pc (p ∷ found) is h placed = absurd cc
@@ -86,7 +86,7 @@ none_found pool major pcs pc (p ∷ found) is h placed = absurd cc
 moved : (pool : List Constant) (major : ℕ) (pcs : List ℕ) (pc : ℕ) (bytes : List ℕ) (was is : List Insn) (begun : List InsnAtByte) (found : List InsnAtByte) → is ≡ was → begun ≡ found → SpellsFrom pool major pcs pc bytes was (starts begun) → SpellsFrom pool major pcs pc bytes is (starts found)
 moved pool major pcs pc bytes was is begun found e f spells = subst (λ (ps : List InsnAtByte). SpellsFrom pool major pcs pc bytes is (starts ps)) f (subst (λ (js : List Insn). SpellsFrom pool major pcs pc bytes js (starts begun)) (sym e) spells)
 
-from_found : (most : ℕ) (pool : List Constant) (major : ℕ) (pcs : List ℕ) (pc : ℕ) (bytes : List ℕ) (found : List InsnAtByte) (is : List Insn) → length bytes ≤ most → IsBytes bytes → insns_at_bytes_from most pool major pc bytes ≡ Ok found → resolved pcs found ≡ Ok is → SpellsFrom pool major pcs pc bytes is (starts found)
+from_found : (most : ℕ) (pool : List Constant) (major : ℕ) (pcs : List ℕ) (pc : ℕ) (bytes : List ℕ) (found : List InsnAtByte) (is : List Insn) → length bytes ≤ most → IsBytes bytes → insns_at_bytes_from most pool major pc bytes ≡ Ok found → insns_with_places pcs found ≡ Ok is → SpellsFrom pool major pcs pc bytes is (starts found)
 unfolding insns_at_bytes_from
 from_found zero pool major pcs pc [] found is enough are h placed = none_found pool major pcs pc found is h placed
 from_found (suc most) pool major pcs pc [] found is enough are h placed = none_found pool major pcs pc found is h placed
@@ -97,7 +97,7 @@ from_found (suc most) pool major pcs pc (b ∷ bytes) found is enough are h plac
     let others = step (insns_at_bytes_from most pool major next i.value.1) _ found i.goes in
     let here : InsnAtByte = record { pc = pc; insn = i.value.0 } in
     let all : here ∷ others.value ≡ found = cc (others.goes) in
-    let both = joined (present (with_places pcs i.value.0) (fault.Target pc)) (resolved pcs others.value) is (ap (λ (ps : List InsnAtByte). resolved pcs ps) all ∙ placed) in
+    let both = joined (present (with_places pcs i.value.0) (fault.Target pc)) (insns_with_places pcs others.value) is (ap (λ (ps : List InsnAtByte). insns_with_places pcs ps) all ∙ placed) in
     let one = insn_or_fault pool major pcs pc (b ∷ bytes) i.value.1 i.value.0 both.head are i.is (present_is (with_places pcs i.value.0) (fault.Target pc) both.head both.first_is) in
     let below : length i.value.1 < length (b ∷ bytes) = found_below pool major pcs pc (b ∷ bytes) i.value.1 both.head one in
     let later = from_found most pool major pcs next i.value.1 others.value both.tail (omega arith) one.are others.is both.others_are in
@@ -107,8 +107,8 @@ from_found (suc most) pool major pcs pc (b ∷ bytes) found is enough are h plac
 pub read_insns_are_spelled : (pool : List Constant) (major : ℕ) (code : List ℕ) (is : List Insn) (pcs : List ℕ) → IsBytes code → insns_of pool major code ≡ Ok (pcs, is) → SpellsInsns pool major pcs code is
 unfolding insns_of
 read_insns_are_spelled pool major code is pcs are h =
-    let found = step (placed pool major code) _ (pcs, is) h in
-    let all = step (resolved (starts found.value) found.value) _ (pcs, is) found.goes in
+    let found = step (insns_at_bytes pool major code) _ (pcs, is) h in
+    let all = step (insns_with_places (starts found.value) found.value) _ (pcs, is) found.goes in
     let parts = read_parts (starts found.value) pcs all.value is all.goes in
     let spells = from_found (length code) pool major (starts found.value) 0 code found.value all.value (omega arith) are found.is all.is in
     ended_at pool major code (starts found.value) pcs all.value is parts.0 parts.1 spells

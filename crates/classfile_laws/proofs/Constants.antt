@@ -8,7 +8,7 @@ use Rattle.jvms_file.specs.declared.fault.ClassFault.{ClassFault}
 use Rattle.jvms_file.specs.declared.fault.ClassFault.TheVariants as fault
 use Rattle.jvms_file.specs.Results.{◌>>=◌}
 use Rattle.jvms_file.specs.Bytes.{signed}
-use Rattle.jvms_file.specs.Texts.{encoded, decoded}
+use Rattle.jvms_file.specs.Texts.{bytes_of_text, text_of_bytes}
 use Rattle.jvms_file.specs.ConstantPool.{utf8_constant_at, one_number_at, two_numbers_at, four_bytes_at, eight_bytes_at, tagged_at, constant_at}
 use Rattle.jvms_file.specs.Spelling.{u2, u4, u8, IsU2, IsU4, SpellsConstant}
 use Rattle.jvms_file.proofs.TextLaws.{decoded_is_encoded, encoded_is_decoded}
@@ -26,8 +26,8 @@ IsUsable _ = Unit {0}
 pub constant_again : (cut : ClassFault) (bytes : List ℕ) (c : Constant) (rest : List ℕ) → IsUsable c → SpellsConstant bytes c → constant_at cut (bytes ++ rest) ≡ Ok (c, rest)
 unfolding constant_at
 constant_again cut bytes (constant.Utf8 text) rest usable s =
-    let count = length (encoded text) in
-    rw (s.2, u1_again cut 1 ((u2 count ++ encoded text) ++ rest), append_assoc (u2 count) (encoded text) rest, u2_again cut count (encoded text ++ rest) s.1, bytes_again cut (encoded text) rest, encoded_is_decoded text s.0) refl
+    let count = length (bytes_of_text text) in
+    rw (s.2, u1_again cut 1 ((u2 count ++ bytes_of_text text) ++ rest), append_assoc (u2 count) (bytes_of_text text) rest, u2_again cut count (bytes_of_text text ++ rest) s.1, bytes_again cut (bytes_of_text text) rest, encoded_is_decoded text s.0) refl
 constant_again cut bytes (constant.Integer n) rest usable s = rw (s.3, u1_again cut 3 (u4 s.0 ++ rest), u4_again cut s.0 rest s.1, s.2) refl
 constant_again cut bytes (constant.Float n) rest usable s = rw (s.1, u1_again cut 4 (u4 n ++ rest), u4_again cut n rest s.0) refl
 constant_again cut bytes (constant.Long n) rest usable s = rw (s.3, u1_again cut 5 (u8 s.0 ++ rest), u8_again cut s.0 rest s.1, s.2) refl
@@ -81,19 +81,19 @@ text_found : (cut : ClassFault) (bytes : List ℕ) (c : Constant) (rest : List �
 text_found cut bytes c rest are e =
     u2_step cut bytes _ _ are e (λ n middle fits parts left more.
     bytes_step cut n middle _ _ left more (λ coded behind size parts2 texts left2 last.
-    go coded behind (decoded coded) refl n middle fits parts size parts2 left2 last))
+    go coded behind (text_of_bytes coded) refl n middle fits parts size parts2 left2 last))
   where
-    go : (coded behind : List ℕ) (r : Result (List ℕ) ℕ) → decoded coded ≡ r → (n : ℕ) (middle : List ℕ) → IsU2 n → bytes ≡ u2 n ++ middle → length coded ≡ n → middle ≡ coded ++ behind → IsBytes behind
+    go : (coded behind : List ℕ) (r : Result (List ℕ) ℕ) → text_of_bytes coded ≡ r → (n : ℕ) (middle : List ℕ) → IsU2 n → bytes ≡ u2 n ++ middle → length coded ≡ n → middle ≡ coded ++ behind → IsBytes behind
         → ◌>>=◌ {B = Constant × List ℕ} (elim r as (λ _. Result (List ℕ) ClassFault) [ Ok units ↦ Ok units | Err place ↦ Err fault.Utf8 ]) (λ units. Ok (constant.Utf8 units, behind)) ≡ Ok (c, rest) → Found (Behind 1) bytes c rest
     go coded behind (Err place) is n middle fits parts size parts2 left last = absurd cc
     go coded behind (Ok units) is n middle fits parts size parts2 left last =
         let same = answered (constant.Utf8 units) c behind rest last in
         let codes = decoded_is_encoded coded units is in
-        let count : length (encoded units) ≡ n = ap length (sym codes.1) ∙ size in
+        let count : length (bytes_of_text units) ≡ n = ap length (sym codes.1) ∙ size in
         record {
-          first = u2 n ++ encoded units;
+          first = u2 n ++ bytes_of_text units;
           parts = rw (parts, parts2, same.1, codes.1, append_assoc) refl;
-          spells = subst (Behind 1 (u2 n ++ encoded units)) same.0 ((codes.0, subst IsU2 (sym count) fits, ap (λ (k : ℕ). 1 ∷ u2 k ++ encoded units) (sym count)), tt);
+          spells = subst (Behind 1 (u2 n ++ bytes_of_text units)) same.0 ((codes.0, subst IsU2 (sym count) fits, ap (λ (k : ℕ). 1 ∷ u2 k ++ bytes_of_text units) (sym count)), tt);
           left = subst IsBytes same.1 left;
         }
 

@@ -16,14 +16,14 @@ use Rattle.jvms_file.specs.declared.class_file.KeptAttribute.{KeptAttribute}
 use Rattle.jvms_file.specs.declared.insn.Insn.{Insn}
 use Rattle.jvms_file.specs.declared.fault.ClassFault.{ClassFault}
 use Rattle.jvms_file.specs.declared.fault.ClassFault.TheVariants as fault
-use Rattle.jvms_file.specs.Results.{◌>>=◌, counted}
+use Rattle.jvms_file.specs.Results.{◌>>=◌, part_list}
 use Rattle.jvms_file.specs.Bytes.{u2_at, u4_at, bytes_at}
 use Rattle.jvms_file.specs.Code.{insns_of, handlers_of, layout_of}
 use Rattle.jvms_file.specs.ClassFile.{interface_at, interfaces_at}
 use Rattle.jvms_file.specs.Names.{is_name, is_method_name}
 use Rattle.jvms_file.specs.Descriptors.{field_type_of}
 use Rattle.jvms_file.specs.ConstantPool.{entry, utf8_at, is_utf8, is_class}
-use Rattle.jvms_file.specs.Members.{is_text_with, is_constant_of, is_same_field, is_same_method, is_code_length, is_interface, is_abstract, is_static, is_method_descriptor_for, AttributeFrame, framed, frame_at, want_all, kept_content_at, kept_at, kept_attributes_at, is_named, constant_value_at, is_constant_value, field_attribute_at, field_at, fields_at, handler_at, code_at, class_number_at, exceptions_at, is_code, is_exceptions, needs_code, is_initializer, method_attribute_at, method_at, methods_at}
+use Rattle.jvms_file.specs.Members.{is_text_with, is_constant_of, is_same_field, is_same_method, is_code_length, is_interface, is_abstract, is_static, is_method_descriptor_for, AttributeFrame, attribute_frame, frame_at, want_all, kept_content_at, kept_at, kept_attributes_at, is_named, constant_value_at, is_constant_value, field_attribute_at, field_at, fields_at, handler_at, code_at, class_number_at, exceptions_at, is_code, is_exceptions, needs_code, is_initializer, method_attribute_at, method_at, methods_at}
 use Rattle.classfile_laws.proofs.Attributes.{whole_frame}
 use Rattle.classfile_laws.proofs.CutSteps.{Cuts, Stops, given, then, same_then, want_then, chosen, number_then, bytes_then, counted_onto_cut, then_stops, number_stops, bytes_stops, want_stops, stops_then}
 
@@ -60,12 +60,12 @@ took (suc n) (x ∷ xs) ys = let others = took n xs ys in (others.0, ap (λ (r :
 
 -- A content that the input cuts.
 abbrev cut_frame : ClassFault → List ℕ → List ℕ → AttributeFrame
-cut_frame cut content behind = record { whole = false; cut = cut; content = content; behind = behind }
+cut_frame cut content behind = record { whole = false; cut = cut; content = content; after = behind }
 
 -- Reading a complete content continues after the attribute. A content that the input cuts ends early.
 pub record CutsFrame {A : Type 0} (f : AttributeFrame → Result (A × List ℕ) ClassFault) : Type 0 where
   pub same : (cut : ClassFault) (content behind more : List ℕ) → Cuts cut more (f (whole_frame content behind)) (f (whole_frame content (behind ++ more)))
-  pub short : (cut : ClassFault) (content behind more : List ℕ) (w : Bool) (d : ClassFault) (end : List ℕ) → Stops cut (f (cut_frame cut content behind)) (f (record { whole = w; cut = d; content = content ++ more; behind = end }))
+  pub short : (cut : ClassFault) (content behind more : List ℕ) (w : Bool) (d : ClassFault) (end : List ℕ) → Stops cut (f (cut_frame cut content behind)) (f (record { whole = w; cut = d; content = content ++ more; after = end }))
 
 from_stops : {A : Type 0} (cut : ClassFault) (more : List ℕ) (short long : Result (A × List ℕ) ClassFault) → Stops cut short long → Cuts cut more short long
 from_stops cut more short long ends = record { either = λ x rest e. inl (ends.stops (x, rest) e) }
@@ -74,7 +74,7 @@ reassoc : {A : Type 0} (r : Result (ℕ × List ℕ) ClassFault) (h : ℕ × Lis
 reassoc (Ok c) h f = refl
 reassoc (Err e) h f = refl
 
-framed_cut : {A : Type 0} (f : AttributeFrame → Result (A × List ℕ) ClassFault) (cut cut' : ClassFault) (n : ℕ) (b more : List ℕ) (t : Bool) → CutsFrame f → nat_le n (length b) ≡ t → Cuts cut more (f (framed cut n b)) (f (framed cut' n (b ++ more)))
+framed_cut : {A : Type 0} (f : AttributeFrame → Result (A × List ℕ) ClassFault) (cut cut' : ClassFault) (n : ℕ) (b more : List ℕ) (t : Bool) → CutsFrame f → nat_le n (length b) ≡ t → Cuts cut more (f (attribute_frame cut n b)) (f (attribute_frame cut' n (b ++ more)))
 framed_cut f cut cut' n b more true cuts there =
     let enough : n ≤ length b = leb-true n (length b) there in
     let there2 : nat_le n (length (b ++ more)) ≡ true = le-leb n (length (b ++ more)) (omega (arith, enough, length-append b more)) in
@@ -85,10 +85,10 @@ framed_cut f cut cut' n b more false cuts there =
 
 pub frame_then : {A : Type 0} (f : AttributeFrame → Result (A × List ℕ) ClassFault) (cut cut' : ClassFault) (first more : List ℕ) → CutsFrame f → Cuts cut more (frame_at cut first >>= f) (frame_at cut' (first ++ more) >>= f)
 frame_then {A} f cut cut' first more cuts =
-    let base : Cuts cut more (u4_at cut first >>= λ c. f (framed cut c.0 c.1)) (u4_at cut' (first ++ more) >>= λ c. f (framed cut' c.0 c.1)) =
+    let base : Cuts cut more (u4_at cut first >>= λ c. f (attribute_frame cut c.0 c.1)) (u4_at cut' (first ++ more) >>= λ c. f (attribute_frame cut' c.0 c.1)) =
     number_then 4 cut cut' first more _ _ (λ n b. framed_cut f cut cut' n b more (nat_le n (length b)) cuts refl) in
-    let half = subst (λ (s : Result (A × List ℕ) ClassFault). Cuts cut more s (u4_at cut' (first ++ more) >>= λ c. f (framed cut' c.0 c.1))) (reassoc (u4_at cut first) (λ c. framed cut c.0 c.1) f) base in
-    subst (λ (l : Result (A × List ℕ) ClassFault). Cuts cut more (frame_at cut first >>= f) l) (reassoc (u4_at cut' (first ++ more)) (λ c. framed cut' c.0 c.1) f) half
+    let half = subst (λ (s : Result (A × List ℕ) ClassFault). Cuts cut more s (u4_at cut' (first ++ more) >>= λ c. f (attribute_frame cut' c.0 c.1))) (reassoc (u4_at cut first) (λ c. attribute_frame cut c.0 c.1) f) base in
+    subst (λ (l : Result (A × List ℕ) ClassFault). Cuts cut more (frame_at cut first >>= f) l) (reassoc (u4_at cut' (first ++ more)) (λ c. attribute_frame cut' c.0 c.1) f) half
 
 -- A frame, followed by a conversion of its content.
 made_frame : {A B : Type 0} (f : AttributeFrame → Result (A × List ℕ) ClassFault) (make : A → B) → CutsFrame f → CutsFrame (λ frame. f frame >>= λ x. Ok (make x.0, x.1))
@@ -169,11 +169,11 @@ exceptions_frame pool =
     record {
       same = λ cut content behind more.
           same_then {U = ℕ × List ℕ} cut more (u2_at fault.AttributeLength content) _ _ (λ count.
-          same_then {U = List ℕ × List ℕ} cut more (counted (class_number_at pool fault.AttributeLength) count.0 count.1) _ _ (λ classes.
+          same_then {U = List ℕ × List ℕ} cut more (part_list (class_number_at pool fault.AttributeLength) count.0 count.1) _ _ (λ classes.
           same_then {U = Unit {0}} cut more (want_all (whole_frame content behind) classes.1) _ _ (λ _. given cut more classes.0 behind)));
       short = λ cut content behind more w d end.
           number_stops 2 cut d content more _ _ (λ count b.
-          then_stops cut more (counted (class_number_at pool cut) count b) (counted (class_number_at pool d) count (b ++ more)) _ _
+          then_stops cut more (part_list (class_number_at pool cut) count b) (part_list (class_number_at pool d) count (b ++ more)) _ _
           (counted_onto_cut cut more (λ seen. class_number_at pool cut) (λ seen. class_number_at pool d) (λ seen bytes. class_number_cut pool cut d bytes more) [] count b)
           (λ classes b2. early cut content behind b2 _ _));
     }
@@ -190,7 +190,7 @@ code_frame pool major =
           want_then cut more (is_code_length code_length.0) fault.CodeLength _ _
           (same_then {U = List ℕ × List ℕ} cut more (bytes_at at code_length.0 code_length.1) _ _ (λ bytes.
           same_then {U = ℕ × List ℕ} cut more (u2_at at bytes.1) _ _ (λ count.
-          same_then {U = List Handler × List ℕ} cut more (counted (handler_at pool at) count.0 count.1) _ _ (λ table.
+          same_then {U = List Handler × List ℕ} cut more (part_list (handler_at pool at) count.0 count.1) _ _ (λ table.
           same_then {U = List KeptAttribute × List ℕ} cut more (kept_attributes_at pool at table.1) _ _ (λ attributes.
           same_then {U = Unit {0}} cut more (want_all (whole_frame content behind) attributes.1) _ _ (λ _.
           same_then {U = List ℕ × List Insn} cut more (insns_of pool major bytes.0) _ _ (λ insns.
@@ -203,7 +203,7 @@ code_frame pool major =
           want_stops cut (is_code_length code_length) fault.CodeLength _ _
           (bytes_stops code_length cut d b3 more _ _ (λ bytes b4.
           number_stops 2 cut d b4 more _ _ (λ count b5.
-          then_stops cut more (counted (handler_at pool cut) count b5) (counted (handler_at pool d) count (b5 ++ more)) _ _
+          then_stops cut more (part_list (handler_at pool cut) count b5) (part_list (handler_at pool d) count (b5 ++ more)) _ _
           (counted_onto_cut cut more (λ seen. handler_at pool cut) (λ seen. handler_at pool d) (λ seen bytes. handler_cut pool cut d bytes more) [] count b5)
           (λ table b6.
           then_stops cut more (kept_attributes_at pool cut b6) (kept_attributes_at pool d (b6 ++ more)) _ _ (kept_attributes_cut pool cut d b6 more)

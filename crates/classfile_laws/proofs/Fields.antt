@@ -52,7 +52,7 @@ field_attribute_found pool cut descriptor seen bytes x rest good are e =
     u2_step frame.cut frame.content _ _ framing.content f2 (λ value end small inner left2 f3.
     want_step (is_constant_of (utf8_at pool descriptor) (entry pool value)) fault.Index _ _ f3 (λ takes f4.
     want_all_step frame end _ _ f4 (λ none whole last.
-    let same = answered (field_attribute.ConstantValue name value) x frame.behind rest last in
+    let same = answered (field_attribute.ConstantValue name value) x frame.after rest last in
     let content : frame.content ≡ u2 value = inner ∙ ap (λ (w : List ℕ). u2 value ++ w) none ∙ append-nil (u2 value) in
     let found = framed_found pool (codes "ConstantValue") name bytes behind frame (λ content. IsU2 value × (is_constant_of (utf8_at pool descriptor) (entry pool value) ≡ true) × (content ≡ u2 value)) rest fits named parts framing whole (small, takes, content) same.1 in
     let one = one_more is_constant_value seen (field_attribute.ConstantValue name value) good (λ _. not-true (list_any is_constant_value seen) fresh) in (

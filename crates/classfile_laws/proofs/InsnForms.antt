@@ -22,7 +22,7 @@ use Rattle.jvms_file.specs.declared.insn.TableSwitch.{TableSwitch}
 use Rattle.jvms_file.specs.declared.insn.LookupSwitch.{LookupSwitch}
 use Rattle.jvms_file.specs.Bytes.{signed}
 use Rattle.jvms_file.specs.ConstantPool.{entry, class_name_at}
-use Rattle.jvms_file.specs.Instructions.{target_of, array_type_of, is_loadable, is_wide_loadable, passes, is_field, invoked, is_invocable, names_usable, is_dimensions, pad_length}
+use Rattle.jvms_file.specs.Instructions.{target_of, array_type_of, is_loadable, is_wide_loadable, passes, is_field, invoked_names, is_invocable, names_usable, is_dimensions, pad_length}
 use Rattle.jvms_file.specs.Spelling.{IsU1, IsU2, IsU4, u2, u4, IsOpcode, InOrder, LeadsTo, SpellsTarget, SpellsCase, IsRising, SpellsAfterInvoke, SpellsSimple, SpellsWithOperands, SpellsInsn}
 
 -- The bytes after an opcode.
@@ -43,7 +43,7 @@ pub data Behind (pool : List Constant) (major : ℕ) (pcs : List ℕ) (pc : ℕ)
   table : {s : TableSwitch} (pads : List ℕ) (default low high : ℕ) (rest : List ℕ) → length pads ≡ pad_length pc → LeadsTo pcs pc s.default default → IsU4 low → s.low ≡ signed w32 low → IsU4 high → IsTrue (int_le s.low (signed w32 high)) → length s.targets ≡ unsigned_abs (signed w32 high -ℤ s.low) + 1 → InOrder (SpellsTarget pcs pc) rest s.targets → Behind pool major pcs pc opcode.TableSwitch (pads ++ (u4 default ++ (u4 low ++ (u4 high ++ rest)))) (insn.Table s)
   lookup : {s : LookupSwitch} (pads : List ℕ) (default : ℕ) (rest : List ℕ) → length pads ≡ pad_length pc → LeadsTo pcs pc s.default default → length s.cases < 2 ^ 31 → IsRising None s.cases → InOrder (SpellsCase pcs pc) rest s.cases → Behind pool major pcs pc opcode.LookupSwitch (pads ++ (u4 default ++ (u4 (length s.cases) ++ rest))) (insn.Lookup s)
   field : {how : FieldUse} (n : ℕ) → IsU2 n → IsTrue (passes is_field (entry pool n)) → Behind pool major pcs pc (opcode.Field how) (u2 n) (insn.Field how n)
-  invoke : {how : Invoke} (n : ℕ) (rest : List ℕ) → IsU2 n → IsTrue (is_invocable how (invoked pool how n)) → SpellsAfterInvoke how (invoked pool how n) rest → Behind pool major pcs pc (opcode.Invoke how) (u2 n ++ rest) (insn.Invoke how n)
+  invoke : {how : Invoke} (n : ℕ) (rest : List ℕ) → IsU2 n → IsTrue (is_invocable how (invoked_names pool how n)) → SpellsAfterInvoke how (invoked_names pool how n) rest → Behind pool major pcs pc (opcode.Invoke how) (u2 n ++ rest) (insn.Invoke how n)
   class : {how : ClassUse} (n : ℕ) → IsU2 n → IsTrue (names_usable how (class_name_at pool n)) → Behind pool major pcs pc (opcode.Class how) (u2 n) (insn.Class how n)
   multi_new_array : (n count : ℕ) → IsU2 n → IsU1 count → IsTrue (is_dimensions count (class_name_at pool n)) → Behind pool major pcs pc opcode.MultiNewArray (u2 n ++ count ∷ []) (insn.MultiNewArray n count)
 

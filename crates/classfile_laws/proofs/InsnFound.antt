@@ -24,7 +24,7 @@ use Rattle.jvms_file.specs.declared.insn.LookupSwitch.{LookupSwitch}
 use Rattle.jvms_file.specs.Results.{◌>>=◌, want}
 use Rattle.jvms_file.specs.Bytes.{u1_at, u2_at, u4_at, bytes_at, signed}
 use Rattle.jvms_file.specs.ConstantPool.{entry, class_name_at}
-use Rattle.jvms_file.specs.Instructions.{Read, target_of, array_type_of, is_loadable, is_wide_loadable, passes, is_field, invoked, is_invocable, names_usable, is_dimensions, invoke_insn, new_array_insn, branch_insn, wide_branch_insn, multi_new_array_insn, is_above, pad_length, interface_count, interface_operands, after_invoke, targets_at, table_switch_insn, cases_at, lookup_switch_insn, wide_form, wide_insn, operands_at, insn_at}
+use Rattle.jvms_file.specs.Instructions.{Read, target_of, array_type_of, is_loadable, is_wide_loadable, passes, is_field, invoked_names, is_invocable, names_usable, is_dimensions, invoke_insn, new_array_insn, branch_insn, wide_branch_insn, multi_new_array_insn, is_above, pad_length, interface_count, interface_operands, after_invoke, targets_at, table_switch_insn, cases_at, lookup_switch_insn, wide_form, wide_insn, operands_at, insn_at}
 use Rattle.jvms_file.specs.Code.{place_of, places_of, case_places, table_places, lookup_places, with_places}
 use Rattle.jvms_file.specs.Spelling.{IsU1, IsU2, IsU4, u2, u4, IsOpcode, InOrder, SpellsTarget, SpellsCase, IsRising, SpellsAfterInvoke, SpellsInsn}
 use Rattle.classfile_laws.proofs.Numbers.{IsBytes, u1_found, u2_found, u4_found, bytes_found}
@@ -333,9 +333,9 @@ unfolding with_places
 invoke_found pool major pcs pc how bytes rest found i are h placed =
     let cut = fault.Operand pc in
     let n = u2_step cut bytes _ (found, rest) are h in
-    let test = tested (is_invocable how (invoked pool how n.n)) cut _ (found, rest) n.goes in
-    let b = step (after_invoke cut how (invoked pool how n.n) n.rest) _ (found, rest) test.1 in
-    let behind = behind_found cut how (invoked pool how n.n) n.rest b.value n.are b.is in
+    let test = tested (is_invocable how (invoked_names pool how n.n)) cut _ (found, rest) n.goes in
+    let b = step (after_invoke cut how (invoked_names pool how n.n) n.rest) _ (found, rest) test.1 in
+    let behind = behind_found cut how (invoked_names pool how n.n) n.rest b.value n.are b.is in
     let whole : bytes ≡ (u2 n.n ++ behind.front) ++ b.value = n.whole ∙ ap (λ (x : List ℕ). u2 n.n ++ x) behind.whole ∙ sym (append_assoc (u2 n.n) behind.front b.value) in
     plain pool major pcs pc (opcode.Invoke how) (u2 n.n ++ behind.front) b.value bytes rest (insn.Invoke how n.n) found i behind.are b.goes placed whole refl (invoke n.n behind.front n.fits test.0 behind.spells)
 

@@ -6,7 +6,7 @@ use Rattle.jvms_file.specs.declared.class_file.Constant.{Constant}
 use Rattle.jvms_file.specs.declared.insn.Insn.{Insn}
 use Rattle.jvms_file.specs.declared.insn.Insn.TheVariants as insn
 use Rattle.jvms_file.specs.Instructions.{pad_length}
-use Rattle.jvms_file.specs.Code.{is_switch, zeroed, with_zero_pads}
+use Rattle.jvms_file.specs.Code.{is_switch, with_zeros, with_zero_pads}
 use Rattle.jvms_file.specs.Spelling.{u4, SpellsInsn, SpellsFrom, SpellsInsns}
 
 -- ---- Bytes that are set to 0
@@ -18,22 +18,22 @@ zeros_length : (n : ℕ) → length (zeros n) ≡ n
 zeros_length n = length-replicate {A = ℕ} n 0
 
 -- The bytes after a front are set to 0.
-zeroed_behind : (front pads rest : List ℕ) → zeroed (length pads) (length front) (front ++ (pads ++ rest)) ≡ front ++ (zeros (length pads) ++ rest)
-unfolding zeroed
+zeroed_behind : (front pads rest : List ℕ) → with_zeros (length pads) (length front) (front ++ (pads ++ rest)) ≡ front ++ (zeros (length pads) ++ rest)
+unfolding with_zeros
 zeroed_behind front [] rest = refl
 zeroed_behind front (p ∷ pads) rest =
     let none = zeros (length pads) in
     let one : (front ++ 0 ∷ []) ++ (pads ++ rest) ≡ front ++ 0 ∷ (pads ++ rest) = append_assoc front (0 ∷ []) (pads ++ rest) in
     let size : length (front ++ 0 ∷ []) ≡ suc (length front) = length-append front (0 ∷ []) ∙ more (length front) in
-    let later : zeroed (length pads) (suc (length front)) (front ++ 0 ∷ (pads ++ rest)) ≡ (front ++ 0 ∷ []) ++ (none ++ rest) = subst (λ (n : ℕ). zeroed (length pads) n (front ++ 0 ∷ (pads ++ rest)) ≡ (front ++ 0 ∷ []) ++ (none ++ rest)) size (subst (λ (bytes : List ℕ). zeroed (length pads) (length (front ++ 0 ∷ [])) bytes ≡ (front ++ 0 ∷ []) ++ (none ++ rest)) one (zeroed_behind (front ++ 0 ∷ []) pads rest)) in
-    ap (λ (bytes : List ℕ). zeroed (length pads) (suc (length front)) bytes) (set-append_seam front p (pads ++ rest) 0) ∙ later ∙ append_assoc front (0 ∷ []) (none ++ rest)
+    let later : with_zeros (length pads) (suc (length front)) (front ++ 0 ∷ (pads ++ rest)) ≡ (front ++ 0 ∷ []) ++ (none ++ rest) = subst (λ (n : ℕ). with_zeros (length pads) n (front ++ 0 ∷ (pads ++ rest)) ≡ (front ++ 0 ∷ []) ++ (none ++ rest)) size (subst (λ (bytes : List ℕ). with_zeros (length pads) (length (front ++ 0 ∷ [])) bytes ≡ (front ++ 0 ∷ []) ++ (none ++ rest)) one (zeroed_behind (front ++ 0 ∷ []) pads rest)) in
+    ap (λ (bytes : List ℕ). with_zeros (length pads) (suc (length front)) bytes) (set-append_seam front p (pads ++ rest) 0) ∙ later ∙ append_assoc front (0 ∷ []) (none ++ rest)
   where
     more : (n : ℕ) → n + 1 ≡ suc n
     more n = omega arith
 
 -- The pads after an opcode at byte pc are set to 0.
-switch_zeroed : (pc code : ℕ) (pads operands front rest : List ℕ) → length pads ≡ pad_length pc → length front ≡ pc → zeroed (pad_length pc) (suc pc) (front ++ ((code ∷ pads ++ operands) ++ rest)) ≡ front ++ ((code ∷ zeros (pad_length pc) ++ operands) ++ rest)
-switch_zeroed pc code pads operands front rest padded at = subst (λ (n : ℕ). zeroed n (suc pc) (front ++ ((code ∷ pads ++ operands) ++ rest)) ≡ front ++ ((code ∷ zeros n ++ operands) ++ rest)) padded by_length
+switch_zeroed : (pc code : ℕ) (pads operands front rest : List ℕ) → length pads ≡ pad_length pc → length front ≡ pc → with_zeros (pad_length pc) (suc pc) (front ++ ((code ∷ pads ++ operands) ++ rest)) ≡ front ++ ((code ∷ zeros (pad_length pc) ++ operands) ++ rest)
+switch_zeroed pc code pads operands front rest padded at = subst (λ (n : ℕ). with_zeros n (suc pc) (front ++ ((code ∷ pads ++ operands) ++ rest)) ≡ front ++ ((code ∷ zeros n ++ operands) ++ rest)) padded by_length
   where
     apart : (xs : List ℕ) → front ++ ((code ∷ xs ++ operands) ++ rest) ≡ (front ++ code ∷ []) ++ (xs ++ (operands ++ rest))
     apart xs = ap (λ (ys : List ℕ). front ++ code ∷ ys) (append_assoc xs operands rest) ∙ sym (append_assoc front (code ∷ []) (xs ++ (operands ++ rest)))
@@ -41,10 +41,10 @@ switch_zeroed pc code pads operands front rest padded at = subst (λ (n : ℕ). 
     behind : length (front ++ code ∷ []) ≡ suc pc
     behind = let size : length (front ++ code ∷ []) ≡ length front + 1 = length-append front (code ∷ []) in omega arith
 
-    by_length : zeroed (length pads) (suc pc) (front ++ ((code ∷ pads ++ operands) ++ rest)) ≡ front ++ ((code ∷ zeros (length pads) ++ operands) ++ rest)
+    by_length : with_zeros (length pads) (suc pc) (front ++ ((code ∷ pads ++ operands) ++ rest)) ≡ front ++ ((code ∷ zeros (length pads) ++ operands) ++ rest)
     by_length =
-        ap (λ (bytes : List ℕ). zeroed (length pads) (suc pc) bytes) (apart pads)
-        ∙ ap (λ (n : ℕ). zeroed (length pads) n ((front ++ code ∷ []) ++ (pads ++ (operands ++ rest)))) (sym behind)
+        ap (λ (bytes : List ℕ). with_zeros (length pads) (suc pc) bytes) (apart pads)
+        ∙ ap (λ (n : ℕ). with_zeros (length pads) n ((front ++ code ∷ []) ++ (pads ++ (operands ++ rest)))) (sym behind)
         ∙ zeroed_behind (front ++ code ∷ []) pads (operands ++ rest)
         ∙ sym (apart (zeros (length pads)))
 
@@ -52,7 +52,7 @@ switch_zeroed pc code pads operands front rest padded at = subst (λ (n : ℕ). 
 
 -- The bytes of code with an instruction's pads set to 0, if it has any.
 abbrev pads_zeroed : ℕ → Insn → List ℕ → List ℕ
-pads_zeroed pc i bytes = cond (is_switch i) (zeroed (pad_length pc) (suc pc) bytes) bytes
+pads_zeroed pc i bytes = cond (is_switch i) (with_zeros (pad_length pc) (suc pc) bytes) bytes
 
 record Padded (pool : List Constant) (major : ℕ) (pcs : List ℕ) (pc : ℕ) (first : List ℕ) (i : Insn) : Type 0 where
   padded : List ℕ

@@ -34,14 +34,14 @@ exceptions_again pool content classes rest s =
 record FoundExceptions (pool : List Constant) (frame : AttributeFrame) (classes : List ℕ) (rest : List ℕ) : Type 0 where
   whole : frame.whole ≡ true
   spells : Counted (SpellsClassNumber pool) frame.content classes
-  behind : frame.behind ≡ rest
+  behind : frame.after ≡ rest
 
 -- Exceptions that were read in a frame are all of its content.
 exceptions_found : (pool : List Constant) (frame : AttributeFrame) (classes : List ℕ) (rest : List ℕ) → IsBytes frame.content → exceptions_at pool frame ≡ Ok (classes, rest) → FoundExceptions pool frame classes rest
 exceptions_found pool frame classes rest are e =
     counted_step (SpellsClassNumber pool) Any (λ seen. class_number_at pool frame.cut) (λ seen front n behind good these one. (class_number_found pool frame.cut front n behind these one, tt)) frame.cut frame.content _ _ tt are e (λ numbers first left counted good parts left_are e1.
     want_all_step frame left _ _ e1 (λ none whole last.
-    let same = answered numbers classes frame.behind rest last in
+    let same = answered numbers classes frame.after rest last in
     let all : first ≡ frame.content = sym (parts ∙ ap (λ (w : List ℕ). first ++ w) none ∙ append-nil first) in
     record { whole = whole; spells = subst (λ (w : List ℕ). Counted (SpellsClassNumber pool) w classes) all (subst (Counted (SpellsClassNumber pool) first) same.0 counted); behind = same.1 }))
 

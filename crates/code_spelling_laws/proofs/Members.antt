@@ -14,7 +14,7 @@ use Rattle.jvms_file.specs.declared.insn.ClassUse.{ClassUse}
 use Rattle.jvms_file.specs.declared.insn.ClassUse.TheVariants as class_use
 use Rattle.jvms_file.specs.declared.insn.Insn.TheVariants as insn
 use Rattle.jvms_file.specs.ConstantPool.{entry, utf8_at, class_name_number, name_and_type_at}
-use Rattle.jvms_file.specs.Instructions.{passes, is_loadable, is_wide_loadable, is_field, method_numbers, invoked, is_invocable, interface_count, names_usable, is_usable_class, is_dimensions}
+use Rattle.jvms_file.specs.Instructions.{passes, is_loadable, is_wide_loadable, is_field, method_numbers, invoked_names, is_invocable, interface_count, names_usable, is_usable_class, is_dimensions}
 use Rattle.jvms_file.specs.Spelling.{u2, IsU1, IsU2, IsOpcode, SpellsLoad, SpellsAfterInvoke, SpellsInsn}
 use Rattle.jasmin.specs.declared.source.ConstantWidth.{ConstantWidth}
 use Rattle.jasmin.specs.declared.source.ConstantWidth.TheVariants as constant_width
@@ -84,7 +84,7 @@ numbers_are invoke.Special c m = refl
 numbers_are invoke.Static c m = refl
 numbers_are invoke.Interface c m = refl
 
-invoked_is : (pool : List Constant) (n : ℕ) (how : Invoke) (m : MethodName) → IsMember (method_constant (kind_of how)) pool n m.class m.name m.descriptor → invoked pool how n ≡ Some (m.name, m.descriptor)
+invoked_is : (pool : List Constant) (n : ℕ) (how : Invoke) (m : MethodName) → IsMember (method_constant (kind_of how)) pool n m.class m.name m.descriptor → invoked_names pool how n ≡ Some (m.name, m.descriptor)
 invoked_is pool n how m named =
     ap (λ (e : Option Constant). option_and_then (λ (numbers : ℕ × ℕ). name_and_type_at pool numbers.1) (option_and_then (method_numbers how) e)) named.here
     ∙ ap (λ (o : Option (ℕ × ℕ)). option_and_then (λ (numbers : ℕ × ℕ). name_and_type_at pool numbers.1) o) (numbers_are how named.class_number named.member_number)
@@ -106,7 +106,7 @@ pub invoke_is_spelled : (pool : List Constant) (pcs : List ℕ) (pc n : ℕ) (ho
     → SpellsInsn pool 49 pcs pc (invoke_opcode how ∷ u2 n ++ after_invoke how m.descriptor) (insn.Invoke how n)
 invoke_is_spelled pool pcs pc n how m fits named formed =
     let is = invoked_is pool n how m named in
-    (invoke_opcode how, invoke_opcode_is how, fits, ap (is_invocable how) is ∙ formed.2, after_invoke how m.descriptor, behind_is_spelled how m (invoked pool how n) is formed.4, refl)
+    (invoke_opcode how, invoke_opcode_is how, fits, ap (is_invocable how) is ∙ formed.2, after_invoke how m.descriptor, behind_is_spelled how m (invoked_names pool how n) is formed.4, refl)
 
 -- ---- Classes
 

@@ -2,7 +2,7 @@
 use Rattle.std.proofs.Common.{◌≡◌, ℕ, zero, suc, ◌+◌, cond, List, [], ◌∷◌, ◌++◌, length, replicate, refl, sym, ap, subst, ◌∙◌, append_assoc, length-append, arith}
 use Rattle.std.proofs.Math.Seq.{set-append_seam}
 use Rattle.jvms_file.specs.Instructions.{pad_length}
-use Rattle.jvms_file.specs.Code.{is_switch, zeroed, with_zero_pads}
+use Rattle.jvms_file.specs.Code.{is_switch, with_zeros, with_zero_pads}
 use Rattle.jasmin.specs.declared.source.BranchWidth.TheVariants as branch_width
 use Rattle.jasmin.specs.declared.source.Operation.{Operation}
 use Rattle.jasmin.specs.declared.source.Operation.TheVariants as operation
@@ -15,31 +15,31 @@ use Rattle.code_spelling_laws.proofs.Sizes.{size_is}
 -- ---- Bytes that are 0
 
 -- Setting bytes to 0 that are 0 changes nothing.
-zeros_stay : (n : ℕ) (front rest : List ℕ) → zeroed n (length front) (front ++ (replicate n 0 ++ rest)) ≡ front ++ (replicate n 0 ++ rest)
-unfolding zeroed
+zeros_stay : (n : ℕ) (front rest : List ℕ) → with_zeros n (length front) (front ++ (replicate n 0 ++ rest)) ≡ front ++ (replicate n 0 ++ rest)
+unfolding with_zeros
 zeros_stay zero front rest = refl
 zeros_stay (suc n) front rest =
     let none : List ℕ = replicate n 0 in
     let one : (front ++ 0 ∷ []) ++ (none ++ rest) ≡ front ++ 0 ∷ (none ++ rest) = append_assoc front (0 ∷ []) (none ++ rest) in
     let more : length (front ++ 0 ∷ []) ≡ suc (length front) = omega (arith, length-append front (0 ∷ [])) in
     let later = zeros_stay n (front ++ 0 ∷ []) rest in
-    let moved : zeroed n (suc (length front)) (front ++ 0 ∷ (none ++ rest)) ≡ front ++ 0 ∷ (none ++ rest) = subst (λ (k : ℕ). zeroed n k (front ++ 0 ∷ (none ++ rest)) ≡ front ++ 0 ∷ (none ++ rest)) more (subst (λ (bytes : List ℕ). zeroed n (length (front ++ 0 ∷ [])) bytes ≡ bytes) one later) in
-    ap (λ (bytes : List ℕ). zeroed n (suc (length front)) bytes) (set-append_seam front 0 (none ++ rest) 0) ∙ moved
+    let moved : with_zeros n (suc (length front)) (front ++ 0 ∷ (none ++ rest)) ≡ front ++ 0 ∷ (none ++ rest) = subst (λ (k : ℕ). with_zeros n k (front ++ 0 ∷ (none ++ rest)) ≡ front ++ 0 ∷ (none ++ rest)) more (subst (λ (bytes : List ℕ). with_zeros n (length (front ++ 0 ∷ [])) bytes ≡ bytes) one later) in
+    ap (λ (bytes : List ℕ). with_zeros n (suc (length front)) bytes) (set-append_seam front 0 (none ++ rest) 0) ∙ moved
 
 -- The padding after an opcode at byte pc stays.
-pads_stay : (pc code : ℕ) (front operands rest : List ℕ) → length front ≡ pc → zeroed (pad_length pc) (suc pc) (front ++ ((code ∷ pads pc ++ operands) ++ rest)) ≡ front ++ ((code ∷ pads pc ++ operands) ++ rest)
+pads_stay : (pc code : ℕ) (front operands rest : List ℕ) → length front ≡ pc → with_zeros (pad_length pc) (suc pc) (front ++ ((code ∷ pads pc ++ operands) ++ rest)) ≡ front ++ ((code ∷ pads pc ++ operands) ++ rest)
 pads_stay pc code front operands rest at =
     let apart : (front ++ code ∷ []) ++ (pads pc ++ (operands ++ rest)) ≡ front ++ ((code ∷ pads pc ++ operands) ++ rest) = append_assoc front (code ∷ []) (pads pc ++ (operands ++ rest)) ∙ ap (λ (ys : List ℕ). front ++ code ∷ ys) (sym (append_assoc (pads pc) operands rest)) in
     let behind : length (front ++ code ∷ []) ≡ suc pc = omega (arith, length-append front (code ∷ [])) in
-    subst (λ (bytes : List ℕ). zeroed (pad_length pc) (suc pc) bytes ≡ bytes) apart
-    (subst (λ (k : ℕ). zeroed (pad_length pc) k ((front ++ code ∷ []) ++ (pads pc ++ (operands ++ rest))) ≡ (front ++ code ∷ []) ++ (pads pc ++ (operands ++ rest))) behind
+    subst (λ (bytes : List ℕ). with_zeros (pad_length pc) (suc pc) bytes ≡ bytes) apart
+    (subst (λ (k : ℕ). with_zeros (pad_length pc) k ((front ++ code ∷ []) ++ (pads pc ++ (operands ++ rest))) ≡ (front ++ code ∷ []) ++ (pads pc ++ (operands ++ rest))) behind
     (zeros_stay (pad_length pc) (front ++ code ∷ []) (operands ++ rest)))
 
 -- ---- Instructions
 
 -- The padding of an instruction stays, if it has any.
 operation_stays : (starts : List ℕ) (items : List CodeItem) (n pc : ℕ) (o : Operation) (front rest : List ℕ) → length front ≡ pc
-    → cond (is_switch (insn_of items n o)) (zeroed (pad_length pc) (suc pc) (front ++ (operation_bytes starts items n pc o ++ rest))) (front ++ (operation_bytes starts items n pc o ++ rest)) ≡ front ++ (operation_bytes starts items n pc o ++ rest)
+    → cond (is_switch (insn_of items n o)) (with_zeros (pad_length pc) (suc pc) (front ++ (operation_bytes starts items n pc o ++ rest))) (front ++ (operation_bytes starts items n pc o ++ rest)) ≡ front ++ (operation_bytes starts items n pc o ++ rest)
 unfolding operation_bytes insn_of table_bytes lookup_bytes
 operation_stays starts items n pc (operation.Table lines) front rest at = pads_stay pc 170 front _ rest at
 operation_stays starts items n pc (operation.Lookup lines) front rest at = pads_stay pc 171 front _ rest at

@@ -63,7 +63,7 @@ use std::thread::Threads;
 use std::{env, io};
 
 /// Runs a case.
-fn walk<R: AllocGlobal + Clock + Eprint + Threads + Wait + Sync>(
+fn run_case<R: AllocGlobal + Clock + Eprint + Threads + Wait + Sync>(
     host: &HostRuntime,
     rt: &R,
     case: &Case<'_>,
@@ -77,7 +77,7 @@ fn walk<R: AllocGlobal + Clock + Eprint + Threads + Wait + Sync>(
 }
 
 /// Runs all cases of a file.
-fn walk_file<R: AllocGlobal + Clock + Eprint + Threads + Wait + Sync>(
+fn run_file<R: AllocGlobal + Clock + Eprint + Threads + Wait + Sync>(
     host: &HostRuntime,
     rt: &R,
     name: &str,
@@ -90,7 +90,7 @@ fn walk_file<R: AllocGlobal + Clock + Eprint + Threads + Wait + Sync>(
         return Err(CaseFault::Empty);
     }
     for case in cases.as_slice() {
-        if let Err(fault) = walk(host, rt, case, tally) {
+        if let Err(fault) = run_case(host, rt, case, tally) {
             tally.unreadable(alloc, case.name, fault)?;
         }
     }
@@ -98,14 +98,14 @@ fn walk_file<R: AllocGlobal + Clock + Eprint + Threads + Wait + Sync>(
 }
 
 /// Runs the cases of the files that the arguments name.
-fn walk_all<R: AllocGlobal + Clock + Eprint + Threads + Wait + Sync>(
+fn run_all<R: AllocGlobal + Clock + Eprint + Threads + Wait + Sync>(
     host: &HostRuntime,
     rt: &R,
     tally: &mut Tally,
 ) -> Result<(), CaseFault> {
     let words: Vec<String> = env::args(host)?.skip(1).collect(rt.alloc())?;
     for name in words.as_slice() {
-        if let Err(fault) = walk_file(host, rt, name.as_str(), tally) {
+        if let Err(fault) = run_file(host, rt, name.as_str(), tally) {
             tally.unreadable(rt.alloc(), name.as_str(), fault)?;
         }
     }
@@ -113,7 +113,7 @@ fn walk_all<R: AllocGlobal + Clock + Eprint + Threads + Wait + Sync>(
 }
 
 /// Prints the differences, and the number of commands with the wanted outcome.
-fn told(rt: &HostRuntime, tally: &Tally) -> io::Result<()> {
+fn print_tally(rt: &HostRuntime, tally: &Tally) -> io::Result<()> {
     let Tally {
         alike,
         differences,
@@ -128,8 +128,8 @@ fn told(rt: &HostRuntime, tally: &Tally) -> io::Result<()> {
 
 fn main(rt: HostRuntime) -> ExitCode {
     let mut tally = Tally::new(rt.alloc());
-    let walked = walk_all(&rt, &rt, &mut tally);
-    let told = told(&rt, &tally);
-    let whole = walked.is_ok() && told.is_ok() && tally.differences == 0;
+    let ran = run_all(&rt, &rt, &mut tally);
+    let printed = print_tally(&rt, &tally);
+    let whole = ran.is_ok() && printed.is_ok() && tally.differences == 0;
     ExitCode::from(u8::from(!whole))
 }

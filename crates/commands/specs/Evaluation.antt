@@ -12,8 +12,8 @@ use Rattle.judge.specs.Shown.{run_judged}
 use Rattle.commands.specs.Limits.{default_limits}
 
 -- Returns what the run by thread 0 alone shows, for at most 1,000,000 turns.
-abbrev pub evaluated : List Input → Entry → Result Shown NotRun
-evaluated inputs entry = run_judged 1000000 Alone default_limits inputs entry
+abbrev pub eval_result : List Input → Entry → Result Shown NotRun
+eval_result inputs entry = run_judged 1000000 Alone default_limits inputs entry
 
 -- Returns the text of a value: an int or a long in decimal, and a reference as null or R:n.
 abbrev pub value_text : Value → List ℕ

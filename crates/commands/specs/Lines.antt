@@ -3,13 +3,13 @@ use Rattle.std.specs.Prelude.{ℕ, List, [], ◌∷◌, ◌++◌, codes}
 use Rattle.std.specs.List.{flat_map}
 use Rattle.std.specs.Fmt.{decimal}
 use Rattle.jvms_machine.specs.declared.machine.Status.{Status}
-use Rattle.escapes.specs.Escapes.{spelled}
+use Rattle.escapes.specs.Escapes.{name_text}
 use Rattle.machine_text.specs.Outcomes.{status_text}
 use Rattle.runs.specs.declared.ending.Ending.{Ending}
 
 -- Returns the line of a thread that ended with an exception of this class.
 abbrev pub uncaught_line : ℕ × List ℕ → List ℕ
-uncaught_line u = codes "uncaught " ++ decimal u.0 ++ codes " " ++ spelled u.1 ++ codes "\n"
+uncaught_line u = codes "uncaught " ++ decimal u.0 ++ codes " " ++ name_text u.1 ++ codes "\n"
 
 -- Returns the line of the status, with the number of turns.
 abbrev pub status_line : Status → ℕ → List ℕ

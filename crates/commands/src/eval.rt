@@ -5,7 +5,7 @@ ghost use Rattle.std.specs.Io.KnownBytes.{Appends};
 ghost use Rattle.trace.specs.Bytes.{AppendsBeginning};
 ghost use Rattle.program_runs.specs.Shown.{HasEnding};
 ghost use Rattle.commands.specs.Faults.{IsFault, NamesFile, WroteBeginning};
-ghost use Rattle.commands.specs.Evaluation.{evaluated, result_text, value_text};
+ghost use Rattle.commands.specs.Evaluation.{eval_result, result_text, value_text};
 
 use crate::fault::RunFault;
 use crate::limits::DEFAULT_LIMITS;
@@ -81,20 +81,20 @@ pub fn eval<W: ByteOut>(
     output: &mut W,
 ) -> Result<Ending, RunFault>
     // The result, the status, the turns and the uncaught exceptions are those of the run by the instruction table.
-    ensures exact { IfOk result (λ e. HasEnding (evaluated inputs.now entry.now) e) }
+    ensures exact { IfOk result (λ e. HasEnding (eval_result inputs.now entry.now) e) }
     // The line of the result was written, or nothing if there is none.
     ensures written { IfOk result
         (λ e. Appends (W.written output.old) (W.written output.new) (result_text e.result)) }
     ensures count { OnOk result (W.failures output.new ≡ W.failures output.old) }
     // A fault is returned only if its condition holds. A fault of a file names one of these.
-    ensures fault { IfErr result (λ fault. IsFault fault (evaluated inputs.now entry.now)) }
+    ensures fault { IfErr result (λ fault. IsFault fault (eval_result inputs.now entry.now)) }
     ensures named { IfErr result (λ fault. NamesFile (length inputs.now) fault) }
     ensures untouched { IfErr result (λ fault. fault ≢ RunFault.Output → output.new ≡ output.old) }
     // The fault is `Output` only if the writer failed. Then a prefix of the line was written.
     ensures failed { IsErrOf result RunFault.Output
         → W.failures output.new ≡ W.failures output.old + 1 }
     ensures beginning { IsErrOf result RunFault.Output → WroteBeginning
-        (evaluated inputs.now entry.now) (λ shown. result_text shown.result)
+        (eval_result inputs.now entry.now) (λ shown. result_text shown.result)
         (W.written output.old) (W.written output.new) }
 {
     let mut chooser = Chooser::alone();

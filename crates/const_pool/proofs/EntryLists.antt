@@ -11,7 +11,7 @@ use Rattle.jvms_file.specs.Reading.{Fails}
 use Rattle.jvms_file.specs.Results.{◌>>=◌}
 use Rattle.jvms_file.specs.ConstantPool.{takes_two, constant_at, entries_at}
 use Rattle.jvms_file.proofs.FrontLaws.{with_front, with_front-append}
-use Rattle.const_pool.specs.Numbered.{numbered}
+use Rattle.const_pool.specs.Numbered.{with_unusable}
 
 -- The result of reading a pool.
 abbrev Read : Type 0
@@ -19,7 +19,7 @@ Read = Result (List Constant × List ℕ) ClassFault
 
 -- The entries after one that was read, with that one at the front.
 abbrev behind_entry : ClassFault → ℕ → Constant × List ℕ → Read
-behind_entry cut left c = with_front (numbered c.0 left) (entries_at cut (left - length (numbered c.0 left)) c.1)
+behind_entry cut left c = with_front (with_unusable c.0 left) (entries_at cut (left - length (with_unusable c.0 left)) c.1)
 
 one_more : (a : Constant) (r : Read) → (r >>= λ cs. Ok (a ∷ cs.0, cs.1)) ≡ with_front (a ∷ []) r
 one_more a (Ok x) = refl
@@ -62,9 +62,9 @@ entries_at-suc cut (suc zero) bytes some = last_entry cut (constant_at cut bytes
 entries_at-suc cut (suc (suc left)) bytes some = next_entry cut left (constant_at cut bytes)
 
 -- One more entry moves from those that are left to those that were read.
-pub more_entries : (front : List Constant) (cut : ClassFault) (left : ℕ) (bytes : List ℕ) (c : Constant) (rest : List ℕ) → 0 < left → constant_at cut bytes ≡ Ok (c, rest) → with_front (front ++ numbered c left) (entries_at cut (left - length (numbered c left)) rest) ≡ with_front front (entries_at cut left bytes)
+pub more_entries : (front : List Constant) (cut : ClassFault) (left : ℕ) (bytes : List ℕ) (c : Constant) (rest : List ℕ) → 0 < left → constant_at cut bytes ≡ Ok (c, rest) → with_front (front ++ with_unusable c left) (entries_at cut (left - length (with_unusable c left)) rest) ≡ with_front front (entries_at cut left bytes)
 more_entries front cut left bytes c rest some is =
-    with_front-append front (numbered c left) (entries_at cut (left - length (numbered c left)) rest)
+    with_front-append front (with_unusable c left) (entries_at cut (left - length (with_unusable c left)) rest)
     ∙ ap (with_front front) (sym (entries_at-suc cut left bytes some ∙ ap (λ r. r >>= behind_entry cut left) is))
 
 -- The fault of the next entry is the fault of all.

@@ -16,7 +16,7 @@ use Rattle.jvms_file.specs.Spelling.{IsNumbered}
 use Rattle.const_pool.specs.declared.entry.Entry.{Entry}
 use Rattle.const_pool.specs.declared.entry.Entry.TheVariants as entry
 use Rattle.const_pool.specs.declared.builder.PoolFault.TheVariants as pool_fault
-use Rattle.const_pool.specs.Interning.{constant_of, constants_of, pool_of, is_same, width, taken, number_from, numbered_from, interned, IsNumbering}
+use Rattle.const_pool.specs.Interning.{constant_of, constants_of, pool_of, is_same, width, total_width, number_from, numbered_from, intern, IsNumbering}
 use Rattle.const_pool.specs.contracts.entry.EntryPartialEq as derived
 
 -- The equality that `==` uses.
@@ -34,14 +34,14 @@ lookup-numbered_from n (x ∷ xs) e = rw (same-is e x) (ap (cond (is_same e x) (
 pub found_number : (entries : List (Entry × ℕ)) (es : List Entry) (e : Entry) → entries ≡ numbered_from 1 (keys_of entries) → keys_of entries ≡ es → lookup (same e) entries ≡ number_from 1 es e
 found_number entries es e numbered are = ap (lookup (same e)) numbered ∙ lookup-numbered_from 1 (keys_of entries) e ∙ ap (λ ks. number_from 1 ks e) are
 
-pub taken-push : (es : List Entry) (e : Entry) → taken (es ++ e ∷ []) ≡ taken es + width e
+pub taken-push : (es : List Entry) (e : Entry) → total_width (es ++ e ∷ []) ≡ total_width es + width e
 taken-push [] e = omega arith
-taken-push (x ∷ xs) e = let more : taken (xs ++ e ∷ []) ≡ taken xs + width e = taken-push xs e in omega arith
+taken-push (x ∷ xs) e = let more : total_width (xs ++ e ∷ []) ≡ total_width xs + width e = taken-push xs e in omega arith
 
-pub numbered_from-push : (n : ℕ) (es : List Entry) (e : Entry) (m : ℕ) → m ≡ n + taken es → numbered_from n (es ++ e ∷ []) ≡ numbered_from n es ++ (e, m) ∷ []
+pub numbered_from-push : (n : ℕ) (es : List Entry) (e : Entry) (m : ℕ) → m ≡ n + total_width es → numbered_from n (es ++ e ∷ []) ≡ numbered_from n es ++ (e, m) ∷ []
 numbered_from-push n [] e m is = let here : n ≡ m = omega arith in ap (λ k. (e, k) ∷ []) here
 numbered_from-push n (x ∷ xs) e m is =
-    let there : m ≡ n + width x + taken xs = omega arith in
+    let there : m ≡ n + width x + total_width xs = omega arith in
     ap (λ more. (x, n) ∷ more) (numbered_from-push (n + width x) xs e m there)
 
 pub keys_of-push : (entries : List (Entry × ℕ)) (e : Entry) (m : ℕ) → keys_of (entries ++ (e, m) ∷ []) ≡ keys_of entries ++ e ∷ []
@@ -55,42 +55,42 @@ width-some e = elim (takes_two (constant_of e)) as (λ two. 0 < cond two 2 1) [ 
 pub one_more : (old new : List (Entry × ℕ)) (e : Entry) (next w : ℕ) → IsNumbering old next → w ≡ width e → w ≤ 65535 - next → new ≡ old ++ (e, next) ∷ [] → IsNumbering new (next + w)
 one_more old new e next w so_far wide fits made =
     let keys : keys_of new ≡ keys_of old ++ e ∷ [] = ap keys_of made ∙ keys_of-push old e next in
-    let place : next ≡ 1 + taken (keys_of old) = let is : next ≡ taken (keys_of old) + 1 = so_far.behind in omega arith in
-    let more : taken (keys_of old ++ e ∷ []) ≡ taken (keys_of old) + width e = taken-push (keys_of old) e in
+    let place : next ≡ 1 + total_width (keys_of old) = let is : next ≡ total_width (keys_of old) + 1 = so_far.next_is in omega arith in
+    let more : total_width (keys_of old ++ e ∷ []) ≡ total_width (keys_of old) + width e = taken-push (keys_of old) e in
     let some : 0 < width e = width-some e in
     record {
       in_order = made ∙ ap (λ es. es ++ (e, next) ∷ []) so_far.in_order ∙ sym (numbered_from-push 1 (keys_of old) e next place) ∙ ap (numbered_from 1) (sym keys);
-      behind = rw keys (omega arith);
+      next_is = rw keys (omega arith);
       few = rw keys (omega arith);
     }
 
 -- ---- Interning
 
-pub interned-known : (es : List Entry) (e : Entry) (n : ℕ) → Some n ≡ number_from 1 es e → interned es e ≡ Ok (n, es)
-unfolding interned
+pub interned-known : (es : List Entry) (e : Entry) (n : ℕ) → Some n ≡ number_from 1 es e → intern es e ≡ Ok (n, es)
+unfolding intern
 interned-known es e n is = rw (← is) refl
 
-pub interned-full : (es keys : List Entry) (e : Entry) (next w : ℕ) → keys ≡ es → next ≡ taken keys + 1 → w ≡ width e → 65535 - next < w → None ≡ number_from 1 es e → interned es e ≡ Err pool_fault.PoolFull
-unfolding interned
+pub interned-full : (es keys : List Entry) (e : Entry) (next w : ℕ) → keys ≡ es → next ≡ total_width keys + 1 → w ≡ width e → 65535 - next < w → None ≡ number_from 1 es e → intern es e ≡ Err pool_fault.PoolFull
+unfolding intern
 interned-full es keys e next w are is wide over new =
-    let all : taken keys ≡ taken es = ap taken are in
-    let full : nat_le (taken es + width e) 65534 ≡ false = grind (arith, nat_tests) in
+    let all : total_width keys ≡ total_width es = ap total_width are in
+    let full : nat_le (total_width es + width e) 65534 ≡ false = grind (arith, nat_tests) in
     rw (← new, full) refl
 
-pub interned-new : (es keys : List Entry) (e : Entry) (next w : ℕ) → keys ≡ es → next ≡ taken keys + 1 → w ≡ width e → w ≤ 65535 - next → 0 < w → None ≡ number_from 1 es e → interned es e ≡ Ok (next, es ++ e ∷ [])
-unfolding interned
+pub interned-new : (es keys : List Entry) (e : Entry) (next w : ℕ) → keys ≡ es → next ≡ total_width keys + 1 → w ≡ width e → w ≤ 65535 - next → 0 < w → None ≡ number_from 1 es e → intern es e ≡ Ok (next, es ++ e ∷ [])
+unfolding intern
 interned-new es keys e next w are is wide fits some new =
-    let all : taken keys ≡ taken es = ap taken are in
-    let free : nat_le (taken es + width e) 65534 ≡ true = grind (arith, nat_tests) in
-    let here : taken es + 1 ≡ next = omega arith in
+    let all : total_width keys ≡ total_width es = ap total_width are in
+    let free : nat_le (total_width es + width e) 65534 ≡ true = grind (arith, nat_tests) in
+    let here : total_width es + 1 ≡ next = omega arith in
     rw (← new, free) (ap (λ n. Ok (n, es ++ e ∷ [])) here)
 
 -- An entry that isn't there takes the next number, if one is left.
-pub interned-next : (es keys : List Entry) (e : Entry) (next w : ℕ) → keys ≡ es → next ≡ taken keys + 1 → w ≡ width e → w ≤ 65535 - next → 0 < w → None ≡ number_from 1 es e → interned es e ≡ Ok (taken es + 1, es ++ e ∷ [])
-unfolding interned
+pub interned-next : (es keys : List Entry) (e : Entry) (next w : ℕ) → keys ≡ es → next ≡ total_width keys + 1 → w ≡ width e → w ≤ 65535 - next → 0 < w → None ≡ number_from 1 es e → intern es e ≡ Ok (total_width es + 1, es ++ e ∷ [])
+unfolding intern
 interned-next es keys e next w are is wide fits some new =
-    let all : taken keys ≡ taken es = ap taken are in
-    let free : nat_le (taken es + width e) 65534 ≡ true = grind (arith, nat_tests) in
+    let all : total_width keys ≡ total_width es = ap total_width are in
+    let free : nat_le (total_width es + width e) 65534 ≡ true = grind (arith, nat_tests) in
     rw (← new, free) refl
 
 -- ---- The pool of entries
@@ -115,7 +115,7 @@ length-constants_of : (e : Entry) (cs : List Constant) → length (constants_of 
 length-constants_of e cs =
     elim (takes_two (constant_of e)) as (λ two. length (cond two (constant_of e ∷ constant.Unusable ∷ []) (constant_of e ∷ []) ++ cs) ≡ cond two 2 1 + length cs) [ true ↦ omega arith | false ↦ omega arith ]
 
-pub length-pool_of : (es : List Entry) → length (pool_of es) ≡ taken es
+pub length-pool_of : (es : List Entry) → length (pool_of es) ≡ total_width es
 length-pool_of [] = refl
 length-pool_of (e ∷ es) = length-constants_of e (pool_of es) ∙ ap (λ n. width e + n) (length-pool_of es)
 
@@ -190,15 +190,15 @@ number_names es e m is =
 
 -- ---- One more entry in the pool
 
-last_number : (es : List Entry) (e : Entry) → slice_get (pool_of (es ++ e ∷ [])) (taken es) ≡ Some (constant_of e)
+last_number : (es : List Entry) (e : Entry) → slice_get (pool_of (es ++ e ∷ [])) (total_width es) ≡ Some (constant_of e)
 last_number [] e = first_number e []
-last_number (x ∷ xs) e = behind_entry x (pool_of (xs ++ e ∷ [])) (taken xs) ∙ last_number xs e
+last_number (x ∷ xs) e = behind_entry x (pool_of (xs ++ e ∷ [])) (total_width xs) ∙ last_number xs e
 
 -- The next number names the entry that takes it.
-pub next_names : (es keys : List Entry) (e : Entry) (next : ℕ) → keys ≡ es → next ≡ taken keys + 1 → entry_at (pool_of (es ++ e ∷ [])) next ≡ Some (constant_of e)
+pub next_names : (es keys : List Entry) (e : Entry) (next : ℕ) → keys ≡ es → next ≡ total_width keys + 1 → entry_at (pool_of (es ++ e ∷ [])) next ≡ Some (constant_of e)
 next_names es keys e next are is =
-    let all : taken keys ≡ taken es = ap taken are in
-    let behind : next ≡ suc (taken es) = omega arith in
+    let all : total_width keys ≡ total_width es = ap total_width are in
+    let behind : next ≡ suc (total_width es) = omega arith in
     rw behind (last_number es e)
 
 get_in_front : (xs ys : List Constant) (i : ℕ) (c : Constant) → slice_get xs i ≡ Some c → slice_get (xs ++ ys) i ≡ Some c
@@ -218,8 +218,8 @@ number_named es e None is = tt
 number_named es e (Some n) is = number_names es e n (sym is)
 
 -- No number is above 65534.
-pub few_numbers : (es keys : List Entry) → keys ≡ es → taken keys ≤ 65534 → length (pool_of es) ≤ 65534
+pub few_numbers : (es keys : List Entry) → keys ≡ es → total_width keys ≤ 65534 → length (pool_of es) ≤ 65534
 few_numbers es keys are few =
-    let all : taken keys ≡ taken es = ap taken are in
-    let len : length (pool_of es) ≡ taken es = length-pool_of es in
+    let all : total_width keys ≡ total_width es = ap total_width are in
+    let len : length (pool_of es) ≡ total_width es = length-pool_of es in
     omega arith

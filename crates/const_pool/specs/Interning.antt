@@ -46,9 +46,9 @@ abbrev pub width : Entry → ℕ
 width e = if takes_two (constant_of e) then 2 else 1
 
 -- Returns the count of numbers that entries take.
-abbrev pub taken : List Entry → ℕ
-taken [] = 0
-taken (e ∷ es) = width e + taken es
+abbrev pub total_width : List Entry → ℕ
+total_width [] = 0
+total_width (e ∷ es) = width e + total_width es
 
 -- Returns the number of an entry among entries that are numbered from n on.
 abbrev pub number_from : ℕ → List Entry → Entry → Option ℕ
@@ -58,12 +58,12 @@ number_from n (x ∷ xs) e = if is_same e x then Some n else number_from (n + wi
 -- Returns the number of an entry in a pool of these, and the entries of the pool with it. An entry that is there keeps
 -- its number. A new one takes the next, and a second one after it if it is a long or a double. No number is above
 -- 65534, since constant_pool_count is at most 65535 (JVMS 4.1).
-unfoldable pub interned : List Entry → Entry → Result (ℕ × List Entry) PoolFault
-interned es e = at_or_next (number_from 1 es e)
+unfoldable pub intern : List Entry → Entry → Result (ℕ × List Entry) PoolFault
+intern es e = at_or_next (number_from 1 es e)
   where
     at_or_next : Option ℕ → Result (ℕ × List Entry) PoolFault
     at_or_next (Some n) = Ok (n, es)
-    at_or_next None = if nat_le (taken es + width e) 65534 then Ok (taken es + 1, es ++ e ∷ []) else Err pool_fault.PoolFull
+    at_or_next None = if nat_le (total_width es + width e) 65534 then Ok (total_width es + 1, es ++ e ∷ []) else Err pool_fault.PoolFull
 
 -- Returns the constants of an entry in a pool: itself, and an unusable one after a long or a double (JVMS 4.4.5).
 abbrev pub constants_of : Entry → List Constant
@@ -81,12 +81,12 @@ numbered_from n (e ∷ es) = (e, n) ∷ numbered_from (n + width e) es
 -- A result of interning, which turned the entries old into new. If it is no number, nothing changed. Memory is needed
 -- only for an entry that isn't there and has a number left.
 abbrev pub Interns : List Entry → Entry → Result ℕ PoolFault → List Entry → Type 0
-Interns old e (Ok n) new = interned old e ≡ Ok (n, new)
-Interns old e (Err pool_fault.PoolFull) new = (interned old e ≡ Err pool_fault.PoolFull) × (new ≡ old)
-Interns old e (Err pool_fault.Memory) new = (interned old e ≡ Ok (taken old + 1, old ++ e ∷ [])) × (new ≡ old)
+Interns old e (Ok n) new = intern old e ≡ Ok (n, new)
+Interns old e (Err pool_fault.PoolFull) new = (intern old e ≡ Err pool_fault.PoolFull) × (new ≡ old)
+Interns old e (Err pool_fault.Memory) new = (intern old e ≡ Ok (total_width old + 1, old ++ e ∷ [])) × (new ≡ old)
 
 -- Entries with their numbers, and the number of the next entry.
 pub record IsNumbering (entries : List (Entry × ℕ)) (next : ℕ) : Type 0 where
   pub in_order : entries ≡ numbered_from 1 (keys_of entries)
-  pub behind : next ≡ taken (keys_of entries) + 1
-  pub few : taken (keys_of entries) ≤ 65534
+  pub next_is : next ≡ total_width (keys_of entries) + 1
+  pub few : total_width (keys_of entries) ≤ 65534

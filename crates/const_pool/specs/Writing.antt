@@ -4,12 +4,12 @@ use Rattle.std.specs.List.{flat_map}
 use Rattle.std.specs.Int.{w32, w64, cast_unsigned}
 use Rattle.jvms_file.specs.declared.class_file.Constant.{Constant}
 use Rattle.jvms_file.specs.declared.class_file.Constant.TheVariants as constant
-use Rattle.jvms_file.specs.Texts.{encoded}
+use Rattle.jvms_file.specs.Texts.{bytes_of_text}
 use Rattle.jvms_file.specs.Spelling.{u2, u4, u8}
 
 -- Returns the bytes of a text: the length of its Modified UTF-8, and its bytes (JVMS 4.4.7).
 abbrev pub text_bytes : List ℕ → List ℕ
-text_bytes text = 1 ∷ (u2 (length (encoded text)) ++ encoded text)
+text_bytes text = 1 ∷ (u2 (length (bytes_of_text text)) ++ bytes_of_text text)
 
 -- Returns the bytes of an entry: its tag (JVMS table 4.4-A), and its content. A signed number is written as two's
 -- complement. The number after a long or a double names nothing, and has no bytes (JVMS 4.4.5).

@@ -66,7 +66,7 @@ fn name_after_tag(tag: u8, cut: ClassFault, bytes: &[u8]) -> Result<(Constant, &
 
 /// Reads the numbers of two other entries after a tag, and returns the entry with the bytes after it (JVMS 4.4.2,
 /// 4.4.6).
-fn names_behind(tag: u8, cut: ClassFault, bytes: &[u8]) -> Result<(Constant, &[u8]), ClassFault>
+fn names_after(tag: u8, cut: ClassFault, bytes: &[u8]) -> Result<(Constant, &[u8]), ClassFault>
     requires from { 9 ≤ tag }
     requires to { tag ≤ 12 }
     ensures { Finds (λ x. (x.0, x.1.now)) result (tagged_at tag cut bytes.now) }
@@ -118,7 +118,7 @@ fn entry_after_tag(
         1 => text_at(alloc, cut, bytes),
         3..=6 => Ok(number_after_tag(tag, cut, bytes)?),
         7..=8 => Ok(name_after_tag(tag, cut, bytes)?),
-        9..=12 => Ok(names_behind(tag, cut, bytes)?),
+        9..=12 => Ok(names_after(tag, cut, bytes)?),
         _ => Err(ReadError::Fault(ClassFault::Tag)),
     }
 }

@@ -3,7 +3,7 @@
 ghost use Rattle.std.specs.Prelude.{◌≡◌, ◌<◌, ◌-◌, ◌++◌, length, IfOk, OnErr};
 ghost use Rattle.jvms_file.specs.ConstantPool.{takes_two, entries_at, pool_at};
 ghost use Rattle.jvms_file.specs.Reading.{Gives};
-ghost use Rattle.const_pool.specs.Numbered.{numbered};
+ghost use Rattle.const_pool.specs.Numbered.{with_unusable};
 
 use crate::constant::constant_at;
 use file_bytes::u2_at;
@@ -23,8 +23,9 @@ fn takes_two_numbers(constant: &Constant) -> bool
 /// numbers that are left then.
 fn put(entries: &mut Items<Constant>, constant: Constant, left: usize) -> Result<usize, AllocError>
     requires { 0 < left }
-    ensures left { IfOk result (λ after. after ≡ left - length (numbered constant left)) }
-    ensures entries { IfOk result (λ after. entries.new ≡ entries.old ++ numbered constant left) }
+    ensures left { IfOk result (λ after. after ≡ left - length (with_unusable constant left)) }
+    ensures entries { IfOk result
+        (λ after. entries.new ≡ entries.old ++ with_unusable constant left) }
 {
     let two = takes_two_numbers(&constant) && left > 1;
     entries.push(constant)?;

@@ -8,7 +8,7 @@ use Rattle.std.specs.List.Sorted.{IsNonDecreasingBy}
 use Rattle.debugger_commands.specs.declared.breakpoint.Breakpoint.{Breakpoint}
 use Rattle.debugger_commands.specs.Sessions.{breakpoint_index}
 use Rattle.debugger.specs.declared.breakpoints.Slot.{Slot}
-use Rattle.debugger.specs.Breakpoints.{AreSlots, IsSlotOf, Rises, kept, numbers}
+use Rattle.debugger.specs.Breakpoints.{AreSlots, IsSlotOf, Rises, breakpoints_of, numbers}
 
 -- ---- Breakpoints of concatenated slots
 
@@ -16,9 +16,9 @@ kept_first : (b : Bool) (x : Breakpoint) (xs ys : List Breakpoint) → cond b (x
 kept_first true x xs ys = refl
 kept_first false x xs ys = refl
 
-pub kept_append : (xs ys : List Slot) → kept (xs ++ ys) ≡ kept xs ++ kept ys
+pub kept_append : (xs ys : List Slot) → breakpoints_of (xs ++ ys) ≡ breakpoints_of xs ++ breakpoints_of ys
 kept_append [] ys = refl
-kept_append (s ∷ xs) ys = ap (λ l. cond s.is_deleted l (s.breakpoint ∷ l)) (kept_append xs ys) ∙ kept_first s.is_deleted s.breakpoint (kept xs) (kept ys)
+kept_append (s ∷ xs) ys = ap (λ l. cond s.is_deleted l (s.breakpoint ∷ l)) (kept_append xs ys) ∙ kept_first s.is_deleted s.breakpoint (breakpoints_of xs) (breakpoints_of ys)
 
 -- A test of all breakpoints, slot by slot.
 any_first : (b t r : Bool) → (t && not b) || r ≡ cond b r (t || r)
@@ -31,18 +31,18 @@ any_cond : (f : Breakpoint → Bool) (b : Bool) (x : Breakpoint) (xs : List Brea
 any_cond f true x xs = refl
 any_cond f false x xs = refl
 
-pub any_kept : (f : Breakpoint → Bool) (slots : List Slot) → list_any (λ (s : Slot). f s.breakpoint && not s.is_deleted) slots ≡ list_any f (kept slots)
+pub any_kept : (f : Breakpoint → Bool) (slots : List Slot) → list_any (λ (s : Slot). f s.breakpoint && not s.is_deleted) slots ≡ list_any f (breakpoints_of slots)
 any_kept f [] = refl
 any_kept f (s ∷ slots) =
-    ap (λ r. (f s.breakpoint && not s.is_deleted) || r) (any_kept f slots) ∙ any_first s.is_deleted (f s.breakpoint) (list_any f (kept slots)) ∙ any_cond f s.is_deleted s.breakpoint (kept slots)
+    ap (λ r. (f s.breakpoint && not s.is_deleted) || r) (any_kept f slots) ∙ any_first s.is_deleted (f s.breakpoint) (list_any f (breakpoints_of slots)) ∙ any_cond f s.is_deleted s.breakpoint (breakpoints_of slots)
 
 -- ---- Slots of deleted breakpoints are dropped
 
-dropped_first : (b : Bool) (s : Slot) (slots : List Slot) → s.is_deleted ≡ b → kept (cond (not b) (s ∷ slots) slots) ≡ cond b (kept slots) (s.breakpoint ∷ kept slots)
+dropped_first : (b : Bool) (s : Slot) (slots : List Slot) → s.is_deleted ≡ b → breakpoints_of (cond (not b) (s ∷ slots) slots) ≡ cond b (breakpoints_of slots) (s.breakpoint ∷ breakpoints_of slots)
 dropped_first true s slots is = refl
-dropped_first false s slots is = ap (λ b. cond b (kept slots) (s.breakpoint ∷ kept slots)) is
+dropped_first false s slots is = ap (λ b. cond b (breakpoints_of slots) (s.breakpoint ∷ breakpoints_of slots)) is
 
-pub kept_dropped : (slots : List Slot) → kept (filter (λ (s : Slot). not s.is_deleted) slots) ≡ kept slots
+pub kept_dropped : (slots : List Slot) → breakpoints_of (filter (λ (s : Slot). not s.is_deleted) slots) ≡ breakpoints_of slots
 kept_dropped [] = refl
 kept_dropped (s ∷ slots) =
     dropped_first s.is_deleted s (filter (λ (x : Slot). not x.is_deleted) slots) refl ∙ ap (λ l. cond s.is_deleted l (s.breakpoint ∷ l)) (kept_dropped slots)
@@ -52,9 +52,9 @@ all_first true s slots bs same = same
 all_first false s slots bs same = ap suc same
 
 -- Then each slot has a breakpoint.
-pub all_kept : (slots : List Slot) → length (kept slots) ≡ length (filter (λ (s : Slot). not s.is_deleted) slots)
+pub all_kept : (slots : List Slot) → length (breakpoints_of slots) ≡ length (filter (λ (s : Slot). not s.is_deleted) slots)
 all_kept [] = refl
-all_kept (s ∷ slots) = all_first s.is_deleted s (filter (λ (x : Slot). not x.is_deleted) slots) (kept slots) (all_kept slots)
+all_kept (s ∷ slots) = all_first s.is_deleted s (filter (λ (x : Slot). not x.is_deleted) slots) (breakpoints_of slots) (all_kept slots)
 
 -- ---- Ascending numbers
 
@@ -140,36 +140,36 @@ no_index k xs is =
 -- ---- A number is found
 
 -- All slots before this one have smaller numbers.
-others_before : (k : ℕ) (slots : List Slot) (i : ℕ) → ((j : ℕ) (d : Slot) → j < i → (get_or slots j d).breakpoint.number < k) → AllOthers k (kept (take i slots))
+others_before : (k : ℕ) (slots : List Slot) (i : ℕ) → ((j : ℕ) (d : Slot) → j < i → (get_or slots j d).breakpoint.number < k) → AllOthers k (breakpoints_of (take i slots))
 others_before k [] zero less = tt
 others_before k [] (suc i) less = tt
 others_before k (s ∷ slots) zero less = tt
 others_before k (s ∷ slots) (suc i) less =
     let first : s.breakpoint.number < k = less 0 s (omega arith) in
-    others_cond k s.is_deleted s.breakpoint (kept (take i slots)) (λ _ same. lt_irrefl k (omega (arith, first, same))) (others_before k slots i (λ j d below. less (suc j) d (omega arith)))
+    others_cond k s.is_deleted s.breakpoint (breakpoints_of (take i slots)) (λ _ same. lt_irrefl k (omega (arith, first, same))) (others_before k slots i (λ j d below. less (suc j) d (omega arith)))
 
-others_above : (k low end : ℕ) (slots : List Slot) → k < low → Rises low end (numbers slots) → AllOthers k (kept slots)
+others_above : (k low end : ℕ) (slots : List Slot) → k < low → Rises low end (numbers slots) → AllOthers k (breakpoints_of slots)
 others_above k low end [] above is = tt
 others_above k low end (s ∷ slots) above is =
-    others_cond k s.is_deleted s.breakpoint (kept slots) (λ _ same. lt_irrefl k (omega (arith, above, is.0, same))) (others_above k (s.breakpoint.number + 1) end slots (omega (arith, above, is.0)) is.1)
+    others_cond k s.is_deleted s.breakpoint (breakpoints_of slots) (λ _ same. lt_irrefl k (omega (arith, above, is.0, same))) (others_above k (s.breakpoint.number + 1) end slots (omega (arith, above, is.0)) is.1)
 
 others_from : (k low end : ℕ) (slots : List Slot) (i : ℕ) → Rises low end (numbers slots) → ((j : ℕ) (d : Slot) → i ≤ j → j < length slots → k ≤ (get_or slots j d).breakpoint.number)
-    → (i < length slots → (d : Slot) → (get_or slots i d).is_deleted ≡ false → (get_or slots i d).breakpoint.number ≢ k) → AllOthers k (kept (drop i slots))
+    → (i < length slots → (d : Slot) → (get_or slots i d).is_deleted ≡ false → (get_or slots i d).breakpoint.number ≢ k) → AllOthers k (breakpoints_of (drop i slots))
 others_from k low end [] zero is more other = tt
 others_from k low end [] (suc i) is more other = tt
 others_from k low end (s ∷ slots) zero is more other =
     let first : k ≤ s.breakpoint.number = more 0 s (omega arith) (omega arith) in
-    others_cond k s.is_deleted s.breakpoint (kept slots) (λ stays. other (omega arith) s stays) (others_above k (s.breakpoint.number + 1) end slots (omega (arith, first)) is.1)
+    others_cond k s.is_deleted s.breakpoint (breakpoints_of slots) (λ stays. other (omega arith) s stays) (others_above k (s.breakpoint.number + 1) end slots (omega (arith, first)) is.1)
 others_from k low end (s ∷ slots) (suc i) is more other =
     others_from k (s.breakpoint.number + 1) end slots i is.1 (λ j d up within. more (suc j) d (omega arith) (omega arith)) (λ within d stays. other (omega arith) d stays)
 
 -- If the slot after all smaller numbers doesn't have the number, none does.
 pub not_found : (k low end : ℕ) (slots : List Slot) (i : ℕ) → Rises low end (numbers slots) → ((j : ℕ) (d : Slot) → j < i → (get_or slots j d).breakpoint.number < k)
     → ((j : ℕ) (d : Slot) → i ≤ j → j < length slots → k ≤ (get_or slots j d).breakpoint.number)
-    → (i < length slots → (d : Slot) → (get_or slots i d).is_deleted ≡ false → (get_or slots i d).breakpoint.number ≢ k) → breakpoint_index k (kept slots) ≡ None
+    → (i < length slots → (d : Slot) → (get_or slots i d).is_deleted ≡ false → (get_or slots i d).breakpoint.number ≢ k) → breakpoint_index k (breakpoints_of slots) ≡ None
 not_found k low end slots i is less more other =
-    let parts : kept (take i slots) ++ kept (drop i slots) ≡ kept slots = sym (kept_append (take i slots) (drop i slots)) ∙ ap kept (take-append-drop i slots) in
-    no_index k (kept slots) (subst (AllOthers k) parts (others_append k (kept (take i slots)) (kept (drop i slots)) (others_before k slots i less) (others_from k low end slots i is more other)))
+    let parts : breakpoints_of (take i slots) ++ breakpoints_of (drop i slots) ≡ breakpoints_of slots = sym (kept_append (take i slots) (drop i slots)) ∙ ap breakpoints_of (take-append-drop i slots) in
+    no_index k (breakpoints_of slots) (subst (AllOthers k) parts (others_append k (breakpoints_of (take i slots)) (breakpoints_of (drop i slots)) (others_before k slots i less) (others_from k low end slots i is more other)))
 
 -- ---- A breakpoint is deleted
 
@@ -177,8 +177,8 @@ remove_after : (xs : List Breakpoint) (b : Breakpoint) (ys : List Breakpoint) �
 remove_after [] b ys = refl
 remove_after (x ∷ xs) b ys = ap (λ l. x ∷ l) (remove_after xs b ys)
 
-kept_stays : (s : Slot) (slots : List Slot) → s.is_deleted ≡ false → kept (s ∷ slots) ≡ s.breakpoint ∷ kept slots
-kept_stays s slots stays = ap (λ t. cond t (kept slots) (s.breakpoint ∷ kept slots)) stays
+kept_stays : (s : Slot) (slots : List Slot) → s.is_deleted ≡ false → breakpoints_of (s ∷ slots) ≡ s.breakpoint ∷ breakpoints_of slots
+kept_stays s slots stays = ap (λ t. cond t (breakpoints_of slots) (s.breakpoint ∷ breakpoints_of slots)) stays
 
 -- A slot whose breakpoint is deleted.
 abbrev pub deleted_slot : Slot → Slot
@@ -190,22 +190,22 @@ numbers_set (x ∷ slots) zero s same within = ap (λ n. n ∷ numbers slots) (s
 numbers_set (x ∷ slots) (suc i) s same within = ap (λ l. x.breakpoint.number ∷ l) (numbers_set slots i s same (omega arith))
 
 -- The breakpoints before a slot's, the slot's own, and those after it.
-kept_split : (k i : ℕ) (slots : List Slot) (s : Slot) → IsSlotOf k slots i → s ≡ get_or slots i s → kept slots ≡ kept (take i slots) ++ s.breakpoint ∷ kept (drop (suc i) slots)
+kept_split : (k i : ℕ) (slots : List Slot) (s : Slot) → IsSlotOf k slots i → s ≡ get_or slots i s → breakpoints_of slots ≡ breakpoints_of (take i slots) ++ s.breakpoint ∷ breakpoints_of (drop (suc i) slots)
 kept_split k i slots s is here =
     let next : i + 1 ≡ suc i = omega arith in
     let split : slots ≡ take i slots ++ s ∷ drop (suc i) slots =
     sym (take-append-drop i slots) ∙ ap (λ l. take i slots ++ l) (drop_more slots i s is.within) ∙ ap (λ x. take i slots ++ x ∷ drop (i + 1) slots) (sym here) ∙ ap (λ n. take i slots ++ s ∷ drop n slots) next in
     let stays : s.is_deleted ≡ false = ap (λ (x : Slot). x.is_deleted) here ∙ is.stays s in
-    ap kept split ∙ kept_append (take i slots) (s ∷ drop (suc i) slots) ∙ ap (λ l. kept (take i slots) ++ l) (kept_stays s (drop (suc i) slots) stays)
+    ap breakpoints_of split ∙ kept_append (take i slots) (s ∷ drop (suc i) slots) ∙ ap (λ l. breakpoints_of (take i slots) ++ l) (kept_stays s (drop (suc i) slots) stays)
 
-kept_set : (k i : ℕ) (slots : List Slot) (s : Slot) → IsSlotOf k slots i → kept (set slots i (deleted_slot s)) ≡ kept (take i slots) ++ kept (drop (suc i) slots)
-kept_set k i slots s is = ap kept (set_split slots i (deleted_slot s) is.within) ∙ kept_append (take i slots) (deleted_slot s ∷ drop (suc i) slots)
+kept_set : (k i : ℕ) (slots : List Slot) (s : Slot) → IsSlotOf k slots i → breakpoints_of (set slots i (deleted_slot s)) ≡ breakpoints_of (take i slots) ++ breakpoints_of (drop (suc i) slots)
+kept_set k i slots s is = ap breakpoints_of (set_split slots i (deleted_slot s) is.within) ∙ kept_append (take i slots) (deleted_slot s ∷ drop (suc i) slots)
 
 pub removed : (k i : ℕ) (slots : List Slot) (s : Slot) → IsSlotOf k slots i → s ≡ get_or slots i s
-    → (p : ℕ) × (breakpoint_index k (kept slots) ≡ Some p) × (kept (set slots i (deleted_slot s)) ≡ remove (kept slots) p)
+    → (p : ℕ) × (breakpoint_index k (breakpoints_of slots) ≡ Some p) × (breakpoints_of (set slots i (deleted_slot s)) ≡ remove (breakpoints_of slots) p)
 removed k i slots s is here =
-    let front = kept (take i slots) in
-    let back = kept (drop (suc i) slots) in
+    let front = breakpoints_of (take i slots) in
+    let back = breakpoints_of (drop (suc i) slots) in
     let split = kept_split k i slots s is here in
     let number : s.breakpoint.number ≡ k = ap (λ (x : Slot). x.breakpoint.number) here ∙ is.number s in (
       length front,
@@ -222,10 +222,10 @@ rising_set k i next slots s is here rising =
 pub deleted_slots : (k i deleted next : ℕ) (slots : List Slot) (s : Slot) → AreSlots slots deleted next → IsSlotOf k slots i → s ≡ get_or slots i s → 2 * (deleted + 1) ≤ length slots
     → AreSlots (set slots i (deleted_slot s)) (deleted + 1) next
 deleted_slots k i deleted next slots s are is here few =
-    let front = kept (take i slots) in
-    let back = kept (drop (suc i) slots) in
-    let before : length (kept slots) ≡ length front + length (s.breakpoint ∷ back) = ap length (kept_split k i slots s is here) ∙ length-append front (s.breakpoint ∷ back) in
-    let after : length (kept (set slots i (deleted_slot s))) ≡ length front + length back = ap length (kept_set k i slots s is) ∙ length-append front back in
+    let front = breakpoints_of (take i slots) in
+    let back = breakpoints_of (drop (suc i) slots) in
+    let before : length (breakpoints_of slots) ≡ length front + length (s.breakpoint ∷ back) = ap length (kept_split k i slots s is here) ∙ length-append front (s.breakpoint ∷ back) in
+    let after : length (breakpoints_of (set slots i (deleted_slot s))) ≡ length front + length back = ap length (kept_set k i slots s is) ∙ length-append front back in
     let same : length (set slots i (deleted_slot s)) ≡ length slots = length-set slots i (deleted_slot s) in
     record {
       rising = rising_set k i next slots s is here are.rising;
@@ -239,7 +239,7 @@ pub dropped_slots : (k i next : ℕ) (slots new : List Slot) (s : Slot) → Rise
 dropped_slots k i next slots new s rising is here new_is =
     let marked = set slots i (deleted_slot s) in
     let left = filter (λ (x : Slot). not x.is_deleted) marked in
-    let all : length (kept left) ≡ length left = ap length (kept_dropped marked) ∙ all_kept marked in
+    let all : length (breakpoints_of left) ≡ length left = ap length (kept_dropped marked) ∙ all_kept marked in
     let are : AreSlots left 0 next = record {
       rising = rises_filter (λ (x : Slot). not x.is_deleted) 0 next marked (rising_set k i next slots s is here rising);
       count = omega (arith, all);
@@ -252,8 +252,8 @@ dropped_slots k i next slots new s rising is here new_is =
 pub added_slots : (slots new : List Slot) (deleted next : ℕ) (s : Slot) → AreSlots slots deleted next → new ≡ slots ++ s ∷ [] → s.breakpoint.number ≡ next → s.is_deleted ≡ false → AreSlots new deleted (next + 1)
 added_slots slots new deleted next s are new_is number stays =
     let names : numbers (slots ++ s ∷ []) ≡ numbers slots ++ next ∷ [] = map-append (λ (x : Slot). x.breakpoint.number) slots (s ∷ []) ∙ ap (λ n. numbers slots ++ n ∷ []) number in
-    let more : length (kept (slots ++ s ∷ [])) ≡ length (kept slots) + 1 =
-    ap length (kept_append slots (s ∷ []) ∙ ap (λ l. kept slots ++ l) (kept_stays s [] stays)) ∙ length-append (kept slots) (s.breakpoint ∷ []) in
+    let more : length (breakpoints_of (slots ++ s ∷ [])) ≡ length (breakpoints_of slots) + 1 =
+    ap length (kept_append slots (s ∷ []) ∙ ap (λ l. breakpoints_of slots ++ l) (kept_stays s [] stays)) ∙ length-append (breakpoints_of slots) (s.breakpoint ∷ []) in
     let count : length (slots ++ s ∷ []) ≡ length slots + 1 = length-append slots (s ∷ []) in
     let all : AreSlots (slots ++ s ∷ []) deleted (next + 1) = record {
       rising = subst (Rises 0 (next + 1)) (sym names) (rises_more 0 next (numbers slots) are.rising);
@@ -262,5 +262,5 @@ added_slots slots new deleted next s are new_is number stays =
     } in
     subst (λ l. AreSlots l deleted (next + 1)) (sym new_is) all
 
-pub kept_added : (slots new : List Slot) (s : Slot) → new ≡ slots ++ s ∷ [] → s.is_deleted ≡ false → kept new ≡ kept slots ++ s.breakpoint ∷ []
-kept_added slots new s new_is stays = ap kept new_is ∙ kept_append slots (s ∷ []) ∙ ap (λ l. kept slots ++ l) (kept_stays s [] stays)
+pub kept_added : (slots new : List Slot) (s : Slot) → new ≡ slots ++ s ∷ [] → s.is_deleted ≡ false → breakpoints_of new ≡ breakpoints_of slots ++ s.breakpoint ∷ []
+kept_added slots new s new_is stays = ap breakpoints_of new_is ∙ kept_append slots (s ∷ []) ∙ ap (λ l. breakpoints_of slots ++ l) (kept_stays s [] stays)

@@ -11,7 +11,7 @@ use Rattle.jvms_machine.specs.Run.{RunResult, joined, run_from, run}
 use Rattle.jvms_machine.proofs.RunLaws.{run_append}
 use Rattle.machine.specs.Machine.{Machine, with_state}
 use Rattle.machine.specs.Runs.{run_of}
-use Rattle.trace.specs.Recording.{count_of, recorded}
+use Rattle.trace.specs.Recording.{count_of, with_items}
 use Rattle.debugger_commands.specs.Sessions.{state_after}
 use Rattle.debugger.specs.declared.mark.Mark.{Mark}
 use Rattle.debugger.specs.Marks.{mark_at}
@@ -82,7 +82,7 @@ count_more g cs n m k t mark is here =
     omega arith
 
 -- The number of items that were appended to those that are kept.
-pub count_added : (r more : Option (List Item)) (items : List Item) → IsSome r → more ≡ recorded r items → count_of more - count_of r ≡ length items
+pub count_added : (r more : Option (List Item)) (items : List Item) → IsSome r → more ≡ with_items r items → count_of more - count_of r ≡ length items
 count_added None more items kept is = let no : ⊥ = search (rules, kept) in absurd no
 count_added (Some before) more items kept is =
     let many : count_of more ≡ length before + length items = ap count_of is ∙ length-append before items in

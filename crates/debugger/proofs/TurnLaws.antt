@@ -7,7 +7,7 @@ use Rattle.jvms_machine.specs.declared.trace.Item.{Item}
 use Rattle.jvms_machine.specs.Run.{run_from}
 use Rattle.machine.specs.Machine.{Machine, transition_of, with_state}
 use Rattle.machine.specs.Runs.{RanAmong, AreRunTurns}
-use Rattle.trace.specs.Recording.{recorded}
+use Rattle.trace.specs.Recording.{with_items}
 use Rattle.trace.proofs.Recorded.{recorded_both, recorded_none}
 use Rattle.debugger.specs.States.{last_outcome}
 use Rattle.debugger.specs.Walks.{turns_of}
@@ -16,14 +16,14 @@ use Rattle.debugger.specs.Walks.{turns_of}
 pub ran_state : (n t threads : ℕ) (m after : Machine) (items more : Option (List Item)) → AreRunTurns n t threads m items after more → after ≡ with_state m (turns_of m t n).state
 unfolding AreRunTurns run_from
 ran_state zero t threads m after items more ran = ran.0
-ran_state (suc n) t threads m after items more ran = ran_state n t threads (with_state m (transition_of m t).state) after (recorded items (transition_of m t).items) more ran.1
+ran_state (suc n) t threads m after items more ran = ran_state n t threads (with_state m (transition_of m t).state) after (with_items items (transition_of m t).items) more ran.1
 
-pub ran_items : (n t threads : ℕ) (m after : Machine) (items more : Option (List Item)) → AreRunTurns n t threads m items after more → more ≡ recorded items (turns_of m t n).items
+pub ran_items : (n t threads : ℕ) (m after : Machine) (items more : Option (List Item)) → AreRunTurns n t threads m items after more → more ≡ with_items items (turns_of m t n).items
 unfolding AreRunTurns run_from
 ran_items zero t threads m after items more ran = ran.1 ∙ sym (recorded_none items)
 ran_items (suc n) t threads m after items more ran =
     let next = with_state m (transition_of m t).state in
-    ran_items n t threads next after (recorded items (transition_of m t).items) more ran.1 ∙ recorded_both items (transition_of m t).items (turns_of next t n).items
+    ran_items n t threads next after (with_items items (transition_of m t).items) more ran.1 ∙ recorded_both items (transition_of m t).items (turns_of next t n).items
 
 ran_outcomes : (n t threads : ℕ) (m after : Machine) (items more : Option (List Item)) → AreRunTurns n t threads m items after more → (turns_of m t n).outcomes ≡ replicate n outcome.Ran
 unfolding AreRunTurns run_from
@@ -31,7 +31,7 @@ ran_outcomes zero t threads m after items more ran = refl
 ran_outcomes (suc n) t threads m after items more ran =
     let next = with_state m (transition_of m t).state in
     let among : RanAmong threads m t = ran.0 in
-    let rest = ran_outcomes n t threads next after (recorded items (transition_of m t).items) more ran.1 in
+    let rest = ran_outcomes n t threads next after (with_items items (transition_of m t).items) more ran.1 in
     ap (λ o. o ∷ (turns_of next t n).outcomes) among.0 ∙ ap (λ os. outcome.Ran ∷ os) rest
 
 last_ran : (n : ℕ) → last_outcome (replicate (suc n) outcome.Ran) ≡ Some outcome.Ran

@@ -9,9 +9,9 @@ pub record Numbered : Type 0 where
   pub next : ℕ
 
 -- Returns the breakpoints that weren't deleted.
-abbrev pub kept : List Slot → List Breakpoint
-kept [] = []
-kept (s ∷ slots) = cond s.is_deleted (kept slots) (s.breakpoint ∷ kept slots)
+abbrev pub breakpoints_of : List Slot → List Breakpoint
+breakpoints_of [] = []
+breakpoints_of (s ∷ slots) = cond s.is_deleted (breakpoints_of slots) (s.breakpoint ∷ breakpoints_of slots)
 
 -- Returns the numbers of breakpoints, including deleted ones.
 abbrev pub numbers : List Slot → List ℕ
@@ -32,5 +32,5 @@ pub record IsSlotOf (k : ℕ) (slots : List Slot) (i : ℕ) : Type 0 where
 -- The slots have ascending numbers, and `deleted` of them are of deleted breakpoints, at most half.
 pub record AreSlots (slots : List Slot) (deleted : ℕ) (next : ℕ) : Type 0 where
   pub rising : Rises 0 next (numbers slots)
-  pub count : length (kept slots) + deleted ≡ length slots
+  pub count : length (breakpoints_of slots) + deleted ≡ length slots
   pub few : 2 * deleted ≤ length slots

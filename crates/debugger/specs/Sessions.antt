@@ -3,12 +3,12 @@ use Rattle.std.specs.Prelude.{◌≡◌, ℕ, List, MatchResult, Result, Ok}
 use Rattle.jvms_program.specs.declared.program.Class.{Class}
 use Rattle.jvms_machine.specs.declared.machine.Entry.{Entry}
 use Rattle.jvms_machine.specs.declared.machine.Limits.{Limits}
-use Rattle.jvms_machine.specs.Opening.{made}
+use Rattle.jvms_machine.specs.Opening.{start_of_entry}
 use Rattle.jvms_machine.specs.Start.{Start}
 use Rattle.machine.specs.declared.fault.MachineFault.{MachineFault}
 use Rattle.machine.specs.Started.{IsNotMade}
 use Rattle.debugger_commands.specs.declared.breakpoint.Breakpoint.{Breakpoint}
-use Rattle.debugger_commands.specs.Sessions.{Session, opened}
+use Rattle.debugger_commands.specs.Sessions.{Session, new_session}
 use Rattle.debugger.specs.declared.body.Body.{Body}
 use Rattle.debugger.specs.declared.reach.Reach.{Reach}
 use Rattle.debugger.specs.declared.replay.Replay.{Replay}
@@ -27,13 +27,13 @@ pub record Debugger : Type 0 where
   pub replayed : ℕ
 
 -- Returns a new session.
-abbrev pub begun : Setting → List ℕ → Debugger
-begun g choices = record { setting = g; session = opened choices; most = 0; far = 0; spacing = 1; replayed = 0 }
+abbrev pub new_debugger : Setting → List ℕ → Debugger
+new_debugger g choices = record { setting = g; session = new_session choices; most = 0; far = 0; spacing = 1; replayed = 0 }
 
 -- A session begins if there is a machine for the entry.
 abbrev pub IsBegun : List Class → Limits → Entry → List ℕ → Result Debugger MachineFault → Type 0
 IsBegun program limits e choices result =
-    MatchResult result (λ d. (start : Start) × (made program limits e ≡ Ok start) × (d ≡ begun (record { program = program; limits = limits; start = start }) choices))
+    MatchResult result (λ d. (start : Start) × (start_of_entry program limits e ≡ Ok start) × (d ≡ new_debugger (record { program = program; limits = limits; start = start }) choices))
     (IsNotMade program limits e)
 
 abbrev pub session_of : Body → Session
@@ -44,8 +44,8 @@ session_of b = record {
   next = b.breakpoints.next;
 }
 
-abbrev pub seen : Body → Debugger
-seen b = record {
+abbrev pub debugger_of : Body → Debugger
+debugger_of b = record {
   setting = setting b.timeline;
   session = session_of b;
   most = b.timeline.most;

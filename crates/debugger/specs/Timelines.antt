@@ -85,5 +85,5 @@ pub record BeginsBranch (t : Timeline) (choices : List ℕ) (w : Walk) : Type 0 
   pub most : w.reach.most ≡ t.most
 
 -- Returns the extent of a timeline after it moved to a replay's position.
-abbrev pub moved : Extent → Replay → Reach → Extent
-moved e r x = record e { position = r.position; most = x.most; far = x.far; spacing = x.spacing }
+abbrev pub extent_after_move : Extent → Replay → Reach → Extent
+extent_after_move e r x = record e { position = r.position; most = x.most; far = x.far; spacing = x.spacing }

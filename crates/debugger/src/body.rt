@@ -2,9 +2,9 @@
 
 ghost use Rattle.std.specs.Prelude.{◌≡◌, ◌+◌, ◌<◌, ◌≤◌, min, max, length, OnOk, OnErr};
 ghost use Rattle.std.specs.Vec.{vec_capacity};
-ghost use Rattle.debugger.specs.Sessions.{IsBody, moved_by, seen, session_of};
+ghost use Rattle.debugger.specs.Sessions.{IsBody, moved_by, debugger_of, session_of};
 ghost use Rattle.debugger.specs.Timelines.{BeginsBranch, IsWalkOf, branch_of, setting};
-ghost use Rattle.debugger_commands.specs.Sessions.{continued, continued_back, picked};
+ghost use Rattle.debugger_commands.specs.Sessions.{after_continue, after_continue_back, with_pick};
 
 use crate::breakpoints::Breakpoints;
 use crate::timeline::Timeline;
@@ -30,9 +30,10 @@ impl<'p> Body<'p> {
         requires body { IsBody self.old }
         requires walk { IsWalkOf self.old.timeline walk.old }
         ensures body { IsBody self.new }
-        ensures seen { OnOk result (seen self.new ≡ moved_by (seen self.old) walk.old.replay
+        ensures debugger { OnOk result
+            (debugger_of self.new ≡ moved_by (debugger_of self.old) walk.old.replay
             walk.old.reach) }
-        ensures kept { OnErr result (seen self.new ≡ seen self.old) }
+        ensures kept { OnErr result (debugger_of self.new ≡ debugger_of self.old) }
     {
         self.trace
             .replace_after(self.trace.len(), walk.take_items())?;
@@ -54,7 +55,7 @@ impl<'p> Body<'p> {
         ensures far { OnOk result (self.new.timeline.far ≡ max self.old.timeline.far place) }
         ensures replayed { OnOk result (self.new.replayed + min place self.old.timeline.far
             < place + self.new.timeline.spacing) }
-        ensures kept { OnErr result (seen self.new ≡ seen self.old) }
+        ensures kept { OnErr result (debugger_of self.new ≡ debugger_of self.old) }
     {
         let mut walk = self.timeline.walk_to(place)?;
         let settled = self.settle(&mut walk);
@@ -68,7 +69,7 @@ impl<'p> Body<'p> {
         ensures body { IsBody self.new }
         ensures setting { setting self.new.timeline ≡ setting self.old.timeline }
         ensures session { OnOk result (session_of self.new
-            ≡ continued (setting self.old.timeline).program (setting self.old.timeline).limits
+            ≡ after_continue (setting self.old.timeline).program (setting self.old.timeline).limits
             (setting self.old.timeline).start (session_of self.old)) }
         ensures most { OnOk result (self.new.timeline.most
             ≡ max self.old.timeline.most self.new.timeline.position) }
@@ -76,7 +77,7 @@ impl<'p> Body<'p> {
             ≡ max self.old.timeline.far self.new.timeline.position) }
         ensures replayed { OnOk result (self.new.replayed + self.old.timeline.position
             ≤ self.new.timeline.position) }
-        ensures kept { OnErr result (seen self.new ≡ seen self.old) }
+        ensures kept { OnErr result (debugger_of self.new ≡ debugger_of self.old) }
     {
         let mut walk = self.timeline.walk_to_hit(&self.breakpoints)?;
         let settled = self.settle(&mut walk);
@@ -89,14 +90,14 @@ impl<'p> Body<'p> {
         requires body { IsBody self.old }
         ensures body { IsBody self.new }
         ensures setting { setting self.new.timeline ≡ setting self.old.timeline }
-        ensures session { OnOk result (session_of self.new ≡ continued_back
+        ensures session { OnOk result (session_of self.new ≡ after_continue_back
             (setting self.old.timeline).program (setting self.old.timeline).limits
             (setting self.old.timeline).start (session_of self.old)) }
         ensures most { OnOk result (self.new.timeline.most ≡ self.old.timeline.most) }
         ensures far { OnOk result (self.new.timeline.far ≡ self.old.timeline.far) }
         ensures replayed { OnOk result (self.new.replayed
             < self.old.timeline.position + self.new.timeline.spacing) }
-        ensures kept { OnErr result (seen self.new ≡ seen self.old) }
+        ensures kept { OnErr result (debugger_of self.new ≡ debugger_of self.old) }
     {
         let hit = self.timeline.hit_before(&self.breakpoints)?;
         self.go_to(hit.position)?;
@@ -112,12 +113,12 @@ impl<'p> Body<'p> {
         requires walk { BeginsBranch self.old.timeline (branch_of self.old.timeline t) walk.old }
         ensures body { IsBody self.new }
         ensures setting { setting self.new.timeline ≡ setting self.old.timeline }
-        ensures session { OnOk result (session_of self.new ≡ picked (session_of self.old) t) }
+        ensures session { OnOk result (session_of self.new ≡ with_pick (session_of self.old) t) }
         ensures most { OnOk result (self.new.timeline.most ≡ max self.old.timeline.most
             (self.old.timeline.position + 1)) }
         ensures far { OnOk result (self.new.timeline.far ≡ self.old.timeline.position + 1) }
         ensures replayed { OnOk result (self.new.replayed ≡ 1) }
-        ensures kept { OnErr result (seen self.new ≡ seen self.old) }
+        ensures kept { OnErr result (debugger_of self.new ≡ debugger_of self.old) }
     {
         self.timeline.advance_on_branch(walk, t)?;
         self.trace
@@ -135,12 +136,12 @@ impl<'p> Body<'p> {
         requires room { self.old.timeline.position < vec_capacity self.old.timeline.choices }
         ensures body { IsBody self.new }
         ensures setting { setting self.new.timeline ≡ setting self.old.timeline }
-        ensures session { OnOk result (session_of self.new ≡ picked (session_of self.old) t) }
+        ensures session { OnOk result (session_of self.new ≡ with_pick (session_of self.old) t) }
         ensures most { OnOk result (self.new.timeline.most ≡ max self.old.timeline.most
             (self.old.timeline.position + 1)) }
         ensures far { OnOk result (self.new.timeline.far ≡ self.old.timeline.position + 1) }
         ensures replayed { OnOk result (self.new.replayed ≡ 1) }
-        ensures kept { OnErr result (seen self.new ≡ seen self.old) }
+        ensures kept { OnErr result (debugger_of self.new ≡ debugger_of self.old) }
     {
         let mut walk = self.timeline.begin_branch(t)?;
         let settled = self.settle_on_branch(t, &mut walk);
@@ -152,7 +153,7 @@ impl<'p> Body<'p> {
     fn reserve_choice(&mut self) -> Result<(), AllocError>
         requires { IsBody self.old }
         ensures body { IsBody self.new }
-        ensures seen { seen self.new ≡ seen self.old }
+        ensures debugger { debugger_of self.new ≡ debugger_of self.old }
         ensures room { OnOk result (self.new.timeline.position
             < vec_capacity self.new.timeline.choices) }
     {
@@ -164,12 +165,12 @@ impl<'p> Body<'p> {
         requires body { IsBody self.old }
         ensures body { IsBody self.new }
         ensures setting { setting self.new.timeline ≡ setting self.old.timeline }
-        ensures session { OnOk result (session_of self.new ≡ picked (session_of self.old) t) }
+        ensures session { OnOk result (session_of self.new ≡ with_pick (session_of self.old) t) }
         ensures most { OnOk result (self.new.timeline.most ≡ max self.old.timeline.most
             (self.old.timeline.position + 1)) }
         ensures far { OnOk result (self.new.timeline.far ≡ self.old.timeline.position + 1) }
         ensures replayed { OnOk result (self.new.replayed ≡ 1) }
-        ensures kept { OnErr result (seen self.new ≡ seen self.old) }
+        ensures kept { OnErr result (debugger_of self.new ≡ debugger_of self.old) }
     {
         self.reserve_choice()?;
         self.take_branch(t)

@@ -3,8 +3,8 @@
 ghost use Rattle.std.specs.Prelude.{◌≡◌, ℕ, ◌+◌, ◌^◌, ◌<◌, ◌==◌, ◌&&◌, ◌++◌, ◌∷◌, [], length};
 ghost use Rattle.std.specs.Prelude.{not, None, Some, true, false, IfOk, OnErr, MatchOption};
 ghost use Rattle.std.specs.List.{remove};
-ghost use Rattle.debugger.specs.Breakpoints.{AreSlots, IsSlotOf, Rises, kept, numbers};
-ghost use Rattle.debugger.specs.Sessions.{IsBody, seen, with_breakpoints};
+ghost use Rattle.debugger.specs.Breakpoints.{AreSlots, IsSlotOf, Rises, breakpoints_of, numbers};
+ghost use Rattle.debugger.specs.Sessions.{IsBody, debugger_of, with_breakpoints};
 ghost use Rattle.debugger_commands.specs.Sessions.{breakpoint_index};
 
 use crate::body::Body;
@@ -35,11 +35,11 @@ pub(crate) struct Breakpoints {
 }
 
 impl Model for Breakpoints {
-    ghost use Rattle.debugger.specs.Breakpoints.{AreSlots, Numbered, kept};
+    ghost use Rattle.debugger.specs.Breakpoints.{AreSlots, Numbered, breakpoints_of};
 
     ghost Value = { Numbered };
 
-    ghost view = { λ b. record { items = kept b.slots.items; next = b.next } };
+    ghost view = { λ b. record { items = breakpoints_of b.slots.items; next = b.next } };
 
     ghost invariant = { λ b. AreSlots b.slots.items b.deleted b.next };
 }
@@ -54,7 +54,7 @@ fn is_slot_of(slot: &Slot, k: u32) -> bool
 /// Returns the slot of breakpoint k, if there is one.
 fn find(slots: &[Slot], k: u32) -> Option<usize>
     requires { (next : ℕ) × Rises 0 next (numbers slots.now) }
-    ensures { MatchOption result (breakpoint_index k (kept slots.now) ≡ None)
+    ensures { MatchOption result (breakpoint_index k (breakpoints_of slots.now) ≡ None)
         (λ i. IsSlotOf k slots.now i) }
 {
     let i = slots.partition_point(|s| s.breakpoint.number < k);
@@ -74,8 +74,8 @@ fn delete_at(slots: &mut Vec<Slot>, deleted: usize, next: u64, k: u32, i: usize)
     requires slots { AreSlots slots.old.items deleted next }
     requires slot { IsSlotOf k slots.old.items i }
     ensures slots { AreSlots slots.new.items result next }
-    ensures removed { (p : ℕ) × (breakpoint_index k (kept slots.old.items) ≡ Some p)
-        × (kept slots.new.items ≡ remove (kept slots.old.items) p) }
+    ensures removed { (p : ℕ) × (breakpoint_index k (breakpoints_of slots.old.items) ≡ Some p)
+        × (breakpoints_of slots.new.items ≡ remove (breakpoints_of slots.old.items) p) }
 {
     slots[i].is_deleted = true;
     let deleted = deleted + 1;
@@ -114,7 +114,7 @@ impl Breakpoints {
 
     /// Returns the slots. Each breakpoint has one.
     pub(crate) fn slots(&self) -> &[Slot]
-        ensures { kept result.now ≡ self.now.items }
+        ensures { breakpoints_of result.now ≡ self.now.items }
     {
         self.slots.as_slice()
     }
@@ -176,9 +176,10 @@ impl Body<'_> {
           method = method;
           instruction = instruction;
         }) }
-        ensures seen { IfOk result (λ b. seen self.new ≡ with_breakpoints (seen self.old)
+        ensures debugger { IfOk result
+            (λ b. debugger_of self.new ≡ with_breakpoints (debugger_of self.old)
             (self.old.breakpoints.items ++ b ∷ []) (self.old.breakpoints.next + 1)) }
-        ensures kept { OnErr result (seen self.new ≡ seen self.old) }
+        ensures kept { OnErr result (debugger_of self.new ≡ debugger_of self.old) }
     {
         let breakpoint = self.breakpoints.add(method, instruction)?;
         self.replayed = 0;

@@ -2,7 +2,7 @@
 
 ghost use Rattle.std.specs.Prelude.{◌≡◌, IfErr, IfOk, OnErr};
 ghost use Rattle.debugger.specs.Commands.{Did, IsRefused};
-ghost use Rattle.debugger.specs.Sessions.{IsBody, seen};
+ghost use Rattle.debugger.specs.Sessions.{IsBody, debugger_of};
 ghost use Rattle.debugger_commands.specs.declared.command.Command.TheVariants as command;
 
 use crate::body::Body;
@@ -17,11 +17,11 @@ impl Body<'_> {
     fn break_at(&mut self, place: &Place) -> Result<View, DebugFault>
         requires { IsBody self.old }
         ensures body { IsBody self.new }
-        ensures did { IfOk result (λ view. Did (command.Break place.now) (seen self.old)
-            (seen self.new) view) }
+        ensures did { IfOk result (λ view. Did (command.Break place.now) (debugger_of self.old)
+            (debugger_of self.new) view) }
         ensures refused { IfErr result (λ fault. IsRefused (command.Break place.now)
-            (seen self.old) fault) }
-        ensures kept { OnErr result (seen self.new ≡ seen self.old) }
+            (debugger_of self.old) fault) }
+        ensures kept { OnErr result (debugger_of self.new ≡ debugger_of self.old) }
     {
         let program = self.timeline.here.machine.program();
         let Some(method) = method_of_place(program, place) else {
@@ -40,11 +40,11 @@ impl Body<'_> {
     fn delete(&mut self, k: u32) -> Result<View, DebugFault>
         requires { IsBody self.old }
         ensures body { IsBody self.new }
-        ensures did { IfOk result (λ view. Did (command.Delete k) (seen self.old)
-            (seen self.new) view) }
+        ensures did { IfOk result (λ view. Did (command.Delete k) (debugger_of self.old)
+            (debugger_of self.new) view) }
         ensures refused { IfErr result (λ fault. IsRefused (command.Delete k)
-            (seen self.old) fault) }
-        ensures kept { OnErr result (seen self.new ≡ seen self.old) }
+            (debugger_of self.old) fault) }
+        ensures kept { OnErr result (debugger_of self.new ≡ debugger_of self.old) }
     {
         if !self.breakpoints.delete(k) {
             return Err(DebugFault::NoBreakpoint);
@@ -57,7 +57,7 @@ impl Body<'_> {
     fn show(&mut self, view: View) -> View
         requires { IsBody self.old }
         ensures body { IsBody self.new }
-        ensures seen { seen self.new ≡ record (seen self.old) { replayed = 0 } }
+        ensures debugger { debugger_of self.new ≡ record (debugger_of self.old) { replayed = 0 } }
         ensures view { result ≡ view }
     {
         self.replayed = 0;
@@ -68,11 +68,11 @@ impl Body<'_> {
     fn show_frames(&mut self, t: ThreadId) -> Result<View, DebugFault>
         requires { IsBody self.old }
         ensures body { IsBody self.new }
-        ensures did { IfOk result (λ view. Did (command.Frames t) (seen self.old)
-            (seen self.new) view) }
+        ensures did { IfOk result (λ view. Did (command.Frames t) (debugger_of self.old)
+            (debugger_of self.new) view) }
         ensures refused { IfErr result (λ fault. IsRefused (command.Frames t)
-            (seen self.old) fault) }
-        ensures kept { OnErr result (seen self.new ≡ seen self.old) }
+            (debugger_of self.old) fault) }
+        ensures kept { OnErr result (debugger_of self.new ≡ debugger_of self.old) }
     {
         match self.timeline.here.machine.has_ended(t) {
             Some(_) => Ok(self.show(View::Frames(t))),
@@ -84,11 +84,11 @@ impl Body<'_> {
     fn show_object(&mut self, r: u32) -> Result<View, DebugFault>
         requires { IsBody self.old }
         ensures body { IsBody self.new }
-        ensures did { IfOk result (λ view. Did (command.Object r) (seen self.old)
-            (seen self.new) view) }
+        ensures did { IfOk result (λ view. Did (command.Object r) (debugger_of self.old)
+            (debugger_of self.new) view) }
         ensures refused { IfErr result (λ fault. IsRefused (command.Object r)
-            (seen self.old) fault) }
-        ensures kept { OnErr result (seen self.new ≡ seen self.old) }
+            (debugger_of self.old) fault) }
+        ensures kept { OnErr result (debugger_of self.new ≡ debugger_of self.old) }
     {
         match self.timeline.here.machine.class_of(r) {
             Some(_) => Ok(self.show(View::Object(r))),
@@ -100,11 +100,11 @@ impl Body<'_> {
     fn show_class(&mut self, name: &Option<Text>) -> Result<View, DebugFault>
         requires { IsBody self.old }
         ensures body { IsBody self.new }
-        ensures did { IfOk result (λ view. Did (command.Class name.now) (seen self.old)
-            (seen self.new) view) }
+        ensures did { IfOk result (λ view. Did (command.Class name.now) (debugger_of self.old)
+            (debugger_of self.new) view) }
         ensures refused { IfErr result (λ fault. IsRefused (command.Class name.now)
-            (seen self.old) fault) }
-        ensures kept { OnErr result (seen self.new ≡ seen self.old) }
+            (debugger_of self.old) fault) }
+        ensures kept { OnErr result (debugger_of self.new ≡ debugger_of self.old) }
     {
         let Some(name) = name else {
             return Err(DebugFault::NoPlace);
@@ -120,9 +120,11 @@ impl Body<'_> {
     pub(crate) fn carry_out(&mut self, command: &Command) -> Result<View, DebugFault>
         requires { IsBody self.old }
         ensures body { IsBody self.new }
-        ensures did { IfOk result (λ view. Did command.now (seen self.old) (seen self.new) view) }
-        ensures refused { IfErr result (λ fault. IsRefused command.now (seen self.old) fault) }
-        ensures kept { OnErr result (seen self.new ≡ seen self.old) }
+        ensures did { IfOk result
+            (λ view. Did command.now (debugger_of self.old) (debugger_of self.new) view) }
+        ensures refused { IfErr result
+            (λ fault. IsRefused command.now (debugger_of self.old) fault) }
+        ensures kept { OnErr result (debugger_of self.new ≡ debugger_of self.old) }
     {
         let position = self.timeline.position;
         let end = self.timeline.choices.len();

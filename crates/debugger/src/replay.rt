@@ -3,7 +3,7 @@
 ghost use Rattle.std.specs.Prelude.{◌≡◌, ℕ, ◌+◌, ◌^◌, ◌<◌, ◌≤◌, ◌++◌, length, replicate, take};
 ghost use Rattle.std.specs.Prelude.{slice_index, IfOk, IsSome, OnOk, Some};
 ghost use Rattle.machine.specs.Machine.{with_state};
-ghost use Rattle.trace.specs.Recording.{recorded};
+ghost use Rattle.trace.specs.Recording.{with_items};
 ghost use Rattle.debugger.specs.States.{items_at, last_outcome, setting_of};
 ghost use Rattle.debugger.specs.Walks.{IsReplay, items_between, turns_of};
 
@@ -37,7 +37,7 @@ fn take_turns(
         (turns_of machine.old t turns.count).outcomes ≡ Some turns.outcome) }
     ensures state { IfOk result (λ turns. machine.new ≡ with_state machine.old
         (turns_of machine.old t turns.count).state) }
-    ensures items { IfOk result (λ turns. recording.new ≡ recorded recording.old
+    ensures items { IfOk result (λ turns. recording.new ≡ with_items recording.old
         (turns_of machine.old t turns.count).items) }
 {
     let count = machine.step_consecutive(t, most, recording);
@@ -99,7 +99,7 @@ impl<'p> Replay<'p> {
         ensures end { OnOk result (self.new.position ≤ end) }
         ensures made { OnOk result (self.new.made + self.old.position
             ≡ self.old.made + self.new.position) }
-        ensures items { OnOk result (recording.new ≡ recorded recording.old
+        ensures items { OnOk result (recording.new ≡ with_items recording.old
             (items_between (setting_of self.old.mark.machine) choices.now self.old.position
             self.new.position)) }
     {

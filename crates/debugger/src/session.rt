@@ -35,11 +35,11 @@ pub struct Session<'p> {
 }
 
 impl<'p> Model for Session<'p> {
-    ghost use Rattle.debugger.specs.Sessions.{Debugger, IsBody, seen};
+    ghost use Rattle.debugger.specs.Sessions.{Debugger, IsBody, debugger_of};
 
     ghost Value = { Debugger };
 
-    ghost view = { λ s. seen s.body };
+    ghost view = { λ s. debugger_of s.body };
 
     ghost invariant = { λ s. IsBody s.body };
 }

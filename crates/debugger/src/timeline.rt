@@ -3,7 +3,7 @@
 ghost use Rattle.std.specs.Prelude.{◌≡◌, ◌+◌, ◌*◌, ◌/◌, ◌^◌, ◌<◌, ◌≤◌, length, max, IfOk, OnOk};
 ghost use Rattle.debugger.specs.Marks.{mark_at, IsSpacing};
 ghost use Rattle.debugger.specs.States.{items_at, setting_of};
-ghost use Rattle.debugger.specs.Timelines.{IsAlong, IsTimeline, IsWalkOf, extent, moved, setting};
+ghost use Rattle.debugger.specs.Timelines.{IsAlong, IsTimeline, IsWalkOf, extent, extent_after_move, setting};
 ghost use Rattle.debugger.specs.Walks.{IsWalk};
 
 use crate::checkpoint::{Checkpoint, thin};
@@ -161,7 +161,8 @@ impl<'p> Timeline<'p> {
         requires few { length (items_at (setting self.old) self.old.choices.items reach.old.far)
             < 2 ^ 63 }
         ensures timeline { IsTimeline self.new }
-        ensures extent { extent self.new ≡ moved (extent self.old) replay.old reach.old }
+        ensures extent { extent self.new
+            ≡ extent_after_move (extent self.old) replay.old reach.old }
     {
         thin(&mut self.checkpoints, 0, reach.ratio);
         let kept = self.checkpoints.append(&mut reach.fresh).is_ok();

@@ -7,7 +7,7 @@ use Rattle.std.proofs.lemmas.List.Splits.{slice_split_none, slice_split_at, leng
 use Rattle.std.proofs.lemmas.Bool.Decides.{nat_tests}
 use Rattle.std.proofs.lemmas.Str.Pattern.{IsSplitOnceResult, split_parts}
 use Rattle.jvms_program.specs.declared.key.MethodKey.{MethodKey}
-use Rattle.escapes.specs.Escapes.{spelled}
+use Rattle.escapes.specs.Escapes.{name_text}
 use Rattle.escapes.specs.Keys.{IsNameOf, IsMethodKey, method_text}
 use Rattle.escapes.specs.Readings.{IsReadAs}
 use Rattle.escapes.specs.declared.sort.NameSort.TheVariants as sort
@@ -83,7 +83,7 @@ is_break name word digits r (Some x) e cut none read = let no : false ≡ true �
 
 -- ---- One command
 
-one_class : (word : List ℕ) (c d : Option (List ℕ)) → IsReadAs (IsNameOf sort.Class) spelled word c → IsReadAs (IsNameOf sort.Class) spelled word d → c ≡ d
+one_class : (word : List ℕ) (c d : Option (List ℕ)) → IsReadAs (IsNameOf sort.Class) name_text word c → IsReadAs (IsNameOf sort.Class) name_text word d → c ≡ d
 one_class word None None left right = refl
 one_class word None (Some d) left right = absurd (left d right.0 right.1)
 one_class word (Some c) None left right = absurd (right c left.0 left.1)

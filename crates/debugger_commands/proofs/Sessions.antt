@@ -13,7 +13,7 @@ use Rattle.debugger_commands.specs.declared.command.Command.{Command}
 use Rattle.debugger_commands.specs.declared.command.Command.TheVariants as command
 use Rattle.debugger_commands.specs.declared.fault.DebugFault.{DebugFault}
 use Rattle.debugger_commands.specs.declared.fault.DebugFault.TheVariants as fault
-use Rattle.debugger_commands.specs.Sessions.{Session, IsSession, opened, moved_to, picked, broken_at, deleted, breakpoint_index, method_of_place, continued, continued_back, is_hit, shows, after}
+use Rattle.debugger_commands.specs.Sessions.{Session, IsSession, new_session, with_position, with_pick, with_breakpoint_at, without_breakpoint, breakpoint_index, method_of_place, after_continue, after_continue_back, is_hit, shows, after}
 use Rattle.debugger_commands.proofs.Hits.{next_hit_within, hit_before_within}
 
 abbrev After : Type 0
@@ -25,10 +25,10 @@ same_ok x y e = cc
 no_ok : (e : DebugFault) (y : Session) → ◌≡◌ {A = After} (Err e) (Ok y) → ⊥
 no_ok e y h = cc
 
-moved : (x : Session) (p : ℕ) → IsSession x → IsSession (moved_to x p)
+moved : (x : Session) (p : ℕ) → IsSession x → IsSession (with_position x p)
 moved x p is = record { position = min-le_right p (length x.choices); next = is.next; numbers = is.numbers }
 
-pick_one : (x : Session) (t : ℕ) → IsSession x → IsSession (picked x t)
+pick_one : (x : Session) (t : ℕ) → IsSession x → IsSession (with_pick x t)
 pick_one x t is =
     let taken = length-take-le x.position x.choices is.position in
     let all = length-append (take x.position x.choices) (t ∷ []) in
@@ -53,23 +53,23 @@ session_if : (b : Bool) (z y : Session) (e : DebugFault) → IsSession z → (if
 session_if true z y e is h = subst IsSession (same_ok z y h) is
 session_if false z y e is h = absurd (no_ok e y h)
 
-broken : (x y : Session) (i : ℕ) (n : Option MethodNumber) → IsSession x → broken_at x i n ≡ Ok y → IsSession y
+broken : (x y : Session) (i : ℕ) (n : Option MethodNumber) → IsSession x → with_breakpoint_at x i n ≡ Ok y → IsSession y
 broken x y i None is h = absurd (no_ok fault.NoPlace y h)
 broken x y i (Some n) is h = session_if (nat_lt x.next 4294967296) _ y fault.NoBreakpoint (one_more x i n is) h
 
-gone : (x y : Session) (i : Option ℕ) → IsSession x → deleted x i ≡ Ok y → IsSession y
+gone : (x y : Session) (i : Option ℕ) → IsSession x → without_breakpoint x i ≡ Ok y → IsSession y
 gone x y None is h = absurd (no_ok fault.NoBreakpoint y h)
 gone x y (Some i) is h =
     let P : Breakpoint → Type 0 = λ b. b.number < x.next in
     let left = All-append P (take i x.breakpoints) (drop (suc i) x.breakpoints) (All-take P i x.breakpoints is.numbers) (All-drop P (suc i) x.breakpoints is.numbers) in
     subst IsSession (same_ok _ y h) (record { position = is.position; next = is.next; numbers = left })
 
-continued_session : (program : List Class) (limits : Limits) (start : Start) (x : Session) → IsSession x → IsSession (continued program limits start x)
+continued_session : (program : List Class) (limits : Limits) (start : Start) (x : Session) → IsSession x → IsSession (after_continue program limits start x)
 continued_session program limits start x is =
     let within = next_hit_within (is_hit program limits start x) x.position (length x.choices - x.position) in
     record { position = omega (arith, within.1, is.position); next = is.next; numbers = is.numbers }
 
-gone_back : (program : List Class) (limits : Limits) (start : Start) (x : Session) → IsSession x → IsSession (continued_back program limits start x)
+gone_back : (program : List Class) (limits : Limits) (start : Start) (x : Session) → IsSession x → IsSession (after_continue_back program limits start x)
 gone_back program limits start x is =
     let within = hit_before_within (is_hit program limits start x) x.position in
     record { position = omega (arith, within, is.position); next = is.next; numbers = is.numbers }
@@ -96,5 +96,5 @@ stays program limits start x y command.Trace is h = subst IsSession (same_ok x y
 stays program limits start x y command.Output is h = subst IsSession (same_ok x y h) is
 
 -- A new session satisfies the invariant.
-pub opens : (choices : List ℕ) → IsSession (opened choices)
+pub opens : (choices : List ℕ) → IsSession (new_session choices)
 opens choices = record { position = omega arith; next = omega arith; numbers = All-nil (λ b. b.number < 1) }

@@ -4,7 +4,7 @@ use Rattle.std.specs.List.{slice_split}
 use Rattle.std.specs.Option.{ok_or}
 use Rattle.std.specs.Str.Parse.{IsNumeral, digits_value}
 use Rattle.jvms_file.specs.Names.{same_text}
-use Rattle.escapes.specs.Escapes.{spelled}
+use Rattle.escapes.specs.Escapes.{name_text}
 use Rattle.escapes.specs.Keys.{IsNameOf, IsMethodKey, method_text}
 use Rattle.escapes.specs.Readings.{IsReadAs}
 use Rattle.escapes.specs.declared.sort.NameSort.TheVariants as sort
@@ -29,7 +29,7 @@ WritesNone word = (n : ℕ) → ¬ (WritesNumber word n)
 
 -- Reads `class` and a word, which may be no class's name.
 abbrev pub IsClassRead : List ℕ → Result Command DebugFault → Type 0
-IsClassRead word (Ok c) = (class : Option (List ℕ)) × (c ≡ command.Class class) × IsReadAs (IsNameOf sort.Class) spelled word class
+IsClassRead word (Ok c) = (class : Option (List ℕ)) × (c ≡ command.Class class) × IsReadAs (IsNameOf sort.Class) name_text word class
 IsClassRead word (Err e) = e ≡ fault.Memory
 
 -- Reads `break`, a word, which may be no method's text, and a number.

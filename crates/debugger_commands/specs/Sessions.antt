@@ -32,8 +32,8 @@ pub record IsSession (x : Session) : Type 0 where
   pub numbers : All (λ b. b.number < x.next) x.breakpoints
 
 -- Returns a session that begins before the first choice, without a breakpoint.
-abbrev pub opened : List ℕ → Session
-opened choices = record { choices = choices; position = 0; breakpoints = []; next = 1 }
+abbrev pub new_session : List ℕ → Session
+new_session choices = record { choices = choices; position = 0; breakpoints = []; next = 1 }
 
 -- Returns the machine's state after the first n of these choices.
 unfoldable pub state_after : List Class → Limits → Start → List ℕ → ℕ → State
@@ -46,12 +46,12 @@ state_of program limits start x = state_after program limits start x.choices x.p
 -- ---- Moves
 
 -- Moves a session to a position, at most to the end.
-abbrev pub moved_to : Session → ℕ → Session
-moved_to x p = record x { position = min p (length x.choices) }
+abbrev pub with_position : Session → ℕ → Session
+with_position x p = record x { position = min p (length x.choices) }
 
 -- Truncates the choices at the position, appends one, and moves after it.
-abbrev pub picked : Session → ℕ → Session
-picked x t = record x { choices = take x.position x.choices ++ t ∷ []; position = x.position + 1 }
+abbrev pub with_pick : Session → ℕ → Session
+with_pick x t = record x { choices = take x.position x.choices ++ t ∷ []; position = x.position + 1 }
 
 -- ---- Breakpoints
 
@@ -78,17 +78,17 @@ with_breakpoint x i n =
     then Ok (record x { breakpoints = x.breakpoints ++ record { number = x.next; method = n; instruction = i } ∷ []; next = x.next + 1 })
     else Err fault.NoBreakpoint
 
-abbrev pub broken_at : Session → ℕ → Option MethodNumber → Result Session DebugFault
-broken_at x i None = Err fault.NoPlace
-broken_at x i (Some n) = with_breakpoint x i n
+abbrev pub with_breakpoint_at : Session → ℕ → Option MethodNumber → Result Session DebugFault
+with_breakpoint_at x i None = Err fault.NoPlace
+with_breakpoint_at x i (Some n) = with_breakpoint x i n
 
 -- Returns the index of breakpoint k in the list.
 abbrev pub breakpoint_index : ℕ → List Breakpoint → Option ℕ
 breakpoint_index k breakpoints = place_of_first (λ b. b.number == k) breakpoints
 
-abbrev pub deleted : Session → Option ℕ → Result Session DebugFault
-deleted x None = Err fault.NoBreakpoint
-deleted x (Some i) = Ok (record x { breakpoints = remove x.breakpoints i })
+abbrev pub without_breakpoint : Session → Option ℕ → Result Session DebugFault
+without_breakpoint x None = Err fault.NoBreakpoint
+without_breakpoint x (Some i) = Ok (record x { breakpoints = remove x.breakpoints i })
 
 -- ---- Hits
 
@@ -124,11 +124,11 @@ unfoldable pub hit_before : (ℕ → Bool) → ℕ → ℕ
 hit_before test zero = 0
 hit_before test (suc p) = if test p then p else hit_before test p
 
-abbrev pub continued : List Class → Limits → Start → Session → Session
-continued program limits start x = record x { position = next_hit (is_hit program limits start x) x.position (length x.choices - x.position) }
+abbrev pub after_continue : List Class → Limits → Start → Session → Session
+after_continue program limits start x = record x { position = next_hit (is_hit program limits start x) x.position (length x.choices - x.position) }
 
-abbrev pub continued_back : List Class → Limits → Start → Session → Session
-continued_back program limits start x = record x { position = hit_before (is_hit program limits start x) x.position }
+abbrev pub after_continue_back : List Class → Limits → Start → Session → Session
+after_continue_back program limits start x = record x { position = hit_before (is_hit program limits start x) x.position }
 
 -- ---- Commands
 
@@ -138,14 +138,14 @@ shows x what none = ok_or (option_map (λ _. x) what) none
 
 -- Returns the session after a command, or the fault of a refused command.
 abbrev pub after : List Class → Limits → Start → Session → Command → Result Session DebugFault
-after program limits start x (command.Step n) = Ok (moved_to x (x.position + n))
-after program limits start x (command.Back n) = Ok (moved_to x (x.position - n))
-after program limits start x (command.Goto n) = Ok (moved_to x n)
-after program limits start x command.Continue = Ok (continued program limits start x)
-after program limits start x command.ReverseContinue = Ok (continued_back program limits start x)
-after program limits start x (command.Pick t) = Ok (picked x t)
-after program limits start x (command.Break place) = broken_at x place.instruction (method_of_place program place)
-after program limits start x (command.Delete k) = deleted x (breakpoint_index k x.breakpoints)
+after program limits start x (command.Step n) = Ok (with_position x (x.position + n))
+after program limits start x (command.Back n) = Ok (with_position x (x.position - n))
+after program limits start x (command.Goto n) = Ok (with_position x n)
+after program limits start x command.Continue = Ok (after_continue program limits start x)
+after program limits start x command.ReverseContinue = Ok (after_continue_back program limits start x)
+after program limits start x (command.Pick t) = Ok (with_pick x t)
+after program limits start x (command.Break place) = with_breakpoint_at x place.instruction (method_of_place program place)
+after program limits start x (command.Delete k) = without_breakpoint x (breakpoint_index k x.breakpoints)
 after program limits start x command.Threads = Ok x
 after program limits start x (command.Frames t) = shows x (slice_get (state_of program limits start x).threads t) fault.NoThread
 after program limits start x (command.Object r) = shows x (object_at (state_of program limits start x).heap r) fault.NoObject

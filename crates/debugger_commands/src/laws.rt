@@ -6,7 +6,7 @@ ghost use Rattle.jvms_machine.specs.declared.machine.Limits.{Limits};
 ghost use Rattle.jvms_machine.specs.Start.{Start};
 ghost use Rattle.debugger_commands.specs.declared.command.Command.{Command};
 ghost use Rattle.debugger_commands.specs.Readings.{AreRead};
-ghost use Rattle.debugger_commands.specs.Sessions.{Session, IsSession, opened, next_hit, hit_before, after};
+ghost use Rattle.debugger_commands.specs.Sessions.{Session, IsSession, new_session, next_hit, hit_before, after};
 
 /// Proves that words are read as one command at most.
 pub fn words_are_of_one_command()
@@ -22,7 +22,7 @@ pub fn the_next_hit_is_the_nearest()
         → p < k → k < next_hit test p left → test k ≡ false }
     ensures within { (test : ℕ → Bool) (p left : ℕ)
         → (p ≤ next_hit test p left) × (next_hit test p left ≤ p + left) }
-    ensures behind { (test : ℕ → Bool) (p left : ℕ) → 0 < left → p < next_hit test p left }
+    ensures beyond { (test : ℕ → Bool) (p left : ℕ) → 0 < left → p < next_hit test p left }
 {}
 
 /// Proves that `rcontinue` moves to a hit before the position, or to 0, and skips no hit.
@@ -37,7 +37,7 @@ pub fn the_hit_before_is_the_nearest()
 /// Proves that every command keeps the invariant of a session: it is at one of its positions, and the numbers of its
 /// breakpoints are below the next.
 pub fn a_session_stays_one()
-    ensures opened { (choices : List ℕ) → IsSession (opened choices) }
-    ensures behind { (program : List Class) (limits : Limits) (start : Start) (x y : Session)
+    ensures opened { (choices : List ℕ) → IsSession (new_session choices) }
+    ensures beyond { (program : List Class) (limits : Limits) (start : Start) (x y : Session)
         (c : Command) → IsSession x → after program limits start x c ≡ Ok y → IsSession y }
 {}

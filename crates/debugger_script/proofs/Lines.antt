@@ -6,7 +6,7 @@ use Rattle.std.proofs.lemmas.Bool.{false≢true}
 use Rattle.debugger_commands.specs.Sessions.{Session}
 use Rattle.debugger.specs.States.{Setting}
 use Rattle.debugger_script.specs.Answers.{AreAnswers, IsAnswer}
-use Rattle.debugger_script.specs.Scripts.{AreLines, HasNoEnd, ended, with_rest}
+use Rattle.debugger_script.specs.Scripts.{AreLines, HasNoEnd, with_lf, with_rest}
 
 -- ---- Answers
 
@@ -33,9 +33,9 @@ both_end (line ∷ lines) second p q = (p.0, both_end lines second p.1 q)
 pub lines-append : (begun a b mid rest : List ℕ) (first second : List (List ℕ)) → AreLines (begun ++ a) first mid → AreLines (mid ++ b) second rest → AreLines (begun ++ (a ++ b)) (first ++ second) rest
 lines-append begun a b mid rest first second p q = record {
   bytes_are =
-      sym (append_assoc begun a b) ∙ ap (λ l. l ++ b) p.bytes_are ∙ append_assoc (flat_map ended first) mid b
-      ∙ ap (λ l. flat_map ended first ++ l) q.bytes_are ∙ sym (append_assoc (flat_map ended first) (flat_map ended second) rest)
-      ∙ ap (λ l. l ++ rest) (sym (flat_map-append ended first second));
+      sym (append_assoc begun a b) ∙ ap (λ l. l ++ b) p.bytes_are ∙ append_assoc (flat_map with_lf first) mid b
+      ∙ ap (λ l. flat_map with_lf first ++ l) q.bytes_are ∙ sym (append_assoc (flat_map with_lf first) (flat_map with_lf second) rest)
+      ∙ ap (λ l. l ++ rest) (sym (flat_map-append with_lf first second));
   lines_end = both_end first second p.lines_end q.lines_end;
   rest_is_open = q.rest_is_open;
 }
@@ -47,7 +47,7 @@ no_lines begun is_open = record { bytes_are = append-nil begun; lines_end = tt; 
 -- The end of the line.
 pub one_line : (begun : List ℕ) → HasNoEnd begun → AreLines (begun ++ 10 ∷ []) (begun ∷ []) []
 one_line begun is_open = record {
-  bytes_are = sym (append-nil (ended begun ++ []) ∙ append-nil (ended begun));
+  bytes_are = sym (append-nil (with_lf begun ++ []) ∙ append-nil (with_lf begun));
   lines_end = (is_open, tt);
   rest_is_open = refl;
 }

@@ -9,8 +9,8 @@ use Rattle.debugger_script.specs.Answers.{AreAnswers, IsAnswer}
 -- ---- Lines
 
 -- Returns a line with the LF that ends it.
-abbrev pub ended : List ℕ → List ℕ
-ended line = line ++ 10 ∷ []
+abbrev pub with_lf : List ℕ → List ℕ
+with_lf line = line ++ 10 ∷ []
 
 -- None of the bytes is an LF.
 abbrev pub HasNoEnd : List ℕ → Type 0
@@ -18,7 +18,7 @@ HasNoEnd bytes = list_any (λ b. b == 10) bytes ≡ false
 
 -- The bytes are lines that each end with LF, and a rest without one.
 pub record AreLines (bytes : List ℕ) (lines : List (List ℕ)) (rest : List ℕ) : Type 0 where
-  pub bytes_are : bytes ≡ flat_map ended lines ++ rest
+  pub bytes_are : bytes ≡ flat_map with_lf lines ++ rest
   pub lines_end : AllByRecursion HasNoEnd lines
   pub rest_is_open : HasNoEnd rest
 

@@ -2,7 +2,7 @@
 use Rattle.std.proofs.Common.{◌≡◌, ℕ, ◌==◌, ◌||◌, Bool, true, false, List, [], ◌∷◌, ◌++◌, refl, sym, ap, ◌∙◌, append_assoc}
 use Rattle.std.proofs.lemmas.Bool.{false≢true}
 use Rattle.std.specs.List.{AllByRecursion, flat_map, list_any}
-use Rattle.debugger_script.specs.Scripts.{AreLines, HasNoEnd, ended}
+use Rattle.debugger_script.specs.Scripts.{AreLines, HasNoEnd, with_lf}
 
 is_end : ℕ → Bool
 is_end b = b == 10
@@ -45,16 +45,16 @@ first_line (a ∷ l) (b ∷ m) x y p q is =
 
 -- ---- All lines
 
-seam : (line : List ℕ) (lines : List (List ℕ)) (rest : List ℕ) → flat_map ended (line ∷ lines) ++ rest ≡ line ++ 10 ∷ (flat_map ended lines ++ rest)
-seam line lines rest = append_assoc (ended line) (flat_map ended lines) rest ∙ append_assoc line (10 ∷ []) (flat_map ended lines ++ rest)
+seam : (line : List ℕ) (lines : List (List ℕ)) (rest : List ℕ) → flat_map with_lf (line ∷ lines) ++ rest ≡ line ++ 10 ∷ (flat_map with_lf lines ++ rest)
+seam line lines rest = append_assoc (with_lf line) (flat_map with_lf lines) rest ∙ append_assoc line (10 ∷ []) (flat_map with_lf lines ++ rest)
 
 one_list : (first second : List (List ℕ)) (rest other : List ℕ) → AllByRecursion HasNoEnd first → AllByRecursion HasNoEnd second → HasNoEnd rest → HasNoEnd other
-    → flat_map ended first ++ rest ≡ flat_map ended second ++ other → (first ≡ second) × (rest ≡ other)
+    → flat_map with_lf first ++ rest ≡ flat_map with_lf second ++ other → (first ≡ second) × (rest ≡ other)
 one_list [] [] rest other p q r s is = (refl, is)
-one_list [] (m ∷ ms) rest other p q r s is = absurd (has_end m (flat_map ended ms ++ other) (ap (list_any (λ b. b == 10)) (sym (seam m ms other) ∙ sym is) ∙ r))
-one_list (l ∷ ls) [] rest other p q r s is = absurd (has_end l (flat_map ended ls ++ rest) (ap (list_any (λ b. b == 10)) (sym (seam l ls rest) ∙ is) ∙ s))
+one_list [] (m ∷ ms) rest other p q r s is = absurd (has_end m (flat_map with_lf ms ++ other) (ap (list_any (λ b. b == 10)) (sym (seam m ms other) ∙ sym is) ∙ r))
+one_list (l ∷ ls) [] rest other p q r s is = absurd (has_end l (flat_map with_lf ls ++ rest) (ap (list_any (λ b. b == 10)) (sym (seam l ls rest) ∙ is) ∙ s))
 one_list (l ∷ ls) (m ∷ ms) rest other p q r s is =
-    let whole = first_line l m (flat_map ended ls ++ rest) (flat_map ended ms ++ other) p.0 q.0 (sym (seam l ls rest) ∙ is ∙ seam m ms other) in
+    let whole = first_line l m (flat_map with_lf ls ++ rest) (flat_map with_lf ms ++ other) p.0 q.0 (sym (seam l ls rest) ∙ is ∙ seam m ms other) in
     let more = one_list ls ms rest other p.1 q.1 r s whole.1 in
     (ap (λ k. k ∷ ls) whole.0 ∙ ap (λ k. m ∷ k) more.0, more.1)
 

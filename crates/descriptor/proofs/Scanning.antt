@@ -12,10 +12,10 @@ use Rattle.jvms_file.specs.declared.descriptor.FieldType.{FieldType}
 use Rattle.jvms_file.specs.Names.{is_name, is_class_name}
 use Rattle.jvms_file.specs.Descriptors.{primitive_of, object_type_from, field_type_from, dimensions_of}
 use Rattle.jvms_file.proofs.DescriptorLaws.{any_is_inside}
-use Rattle.descriptor.specs.Scanning.{object_at, element_at, at_front, with_dimensions, unreserved}
+use Rattle.descriptor.specs.Scanning.{object_at, element_at, at_front, with_dimensions, is_unreserved}
 
 -- a name is a text that is not empty, with no reserved unit
-pub name_is : (us : List ℕ) → (length us ≡ 0 → ⊥) → is_name us ≡ unreserved us
+pub name_is : (us : List ℕ) → (length us ≡ 0 → ⊥) → is_name us ≡ is_unreserved us
 name_is [] some = absurd (some refl)
 name_is (u ∷ us) some = refl
 

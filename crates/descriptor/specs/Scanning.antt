@@ -13,12 +13,12 @@ use Rattle.descriptor.specs.declared.scan.ParsedElement.TheVariants as innermost
 use Rattle.descriptor.specs.declared.scan.ParsedType.{ParsedType}
 
 -- Decides whether no unit of a text is reserved.
-abbrev pub unreserved : List ℕ → Bool
-unreserved us = list_all (λ u. not (is_reserved u)) us
+abbrev pub is_unreserved : List ℕ → Bool
+is_unreserved us = list_all (λ u. not (is_reserved u)) us
 
 -- Decides whether a text has neither < nor >.
-abbrev pub without_angles : List ℕ → Bool
-without_angles us = list_all (λ u. not (is_angle u)) us
+abbrev pub has_no_angles : List ℕ → Bool
+has_no_angles us = list_all (λ u. not (is_angle u)) us
 
 -- Returns the element that a slice of a text denotes.
 abbrev pub element_of : ParsedElement → Element

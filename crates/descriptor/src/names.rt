@@ -3,7 +3,7 @@
 ghost use Rattle.std.specs.Prelude.{◌≡◌};
 ghost use Rattle.jvms_file.specs.Instructions.{is_invocable_name};
 ghost use Rattle.jvms_file.specs.Names.{begins_with, is_name, is_class_name, is_reserved, is_angle, is_constructor_name, is_initializer_name, is_method_name, same_text};
-ghost use Rattle.descriptor.specs.Scanning.{without_angles, unreserved};
+ghost use Rattle.descriptor.specs.Scanning.{has_no_angles, is_unreserved};
 
 use crate::letters::{BRACKET, DOT, GREATER, LESS, SEMICOLON, SLASH};
 use jvms_file::insn::Invoke;
@@ -53,7 +53,7 @@ fn is_angle(unit: u16) -> bool
 
 /// Decides whether no unit of a text is reserved.
 fn is_unreserved(text: &[u16]) -> bool
-    ensures { result ≡ unreserved text.now }
+    ensures { result ≡ is_unreserved text.now }
 {
     text.iter().all(|unit| !is_reserved(*unit))
 }
@@ -88,8 +88,8 @@ pub fn is_initializer_name(text: &[u16]) -> bool
 }
 
 /// Decides whether a text has neither `<` nor `>`.
-fn is_without_angles(text: &[u16]) -> bool
-    ensures { result ≡ without_angles text.now }
+fn has_no_angles(text: &[u16]) -> bool
+    ensures { result ≡ has_no_angles text.now }
 {
     text.iter().all(|unit| !is_angle(*unit))
 }
@@ -99,9 +99,7 @@ fn is_without_angles(text: &[u16]) -> bool
 pub fn is_method_name(text: &[u16]) -> bool
     ensures { result ≡ is_method_name text.now }
 {
-    is_constructor_name(text)
-        || is_initializer_name(text)
-        || (is_name(text) && is_without_angles(text))
+    is_constructor_name(text) || is_initializer_name(text) || (is_name(text) && has_no_angles(text))
 }
 
 /// Decides whether a name begins with `<`.

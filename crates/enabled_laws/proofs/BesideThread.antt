@@ -72,7 +72,7 @@ beside_heap s made heap threads = record { heap = subst (Extends s.heap) (sym he
 
 pub exception_beside : (program : List Class) (s : State) (e : Exception) → IsBeside s (with_exception program s e)
 exception_beside program s (exception.New class) = record { heap = extends_appended s.heap _; threads = refl }
-exception_beside program s (exception.Held r) = beside_itself s
+exception_beside program s (exception.Existing r) = beside_itself s
 
 field_beside : (s : State) (r : ℕ) (v : Value) (o : Option FieldKey) → IfSome o (λ key. value_size v ≡ units_of (field_type key.descriptor)) → IsBeside s (put_field s r v o)
 field_beside s r v None size = beside_itself s
@@ -109,7 +109,7 @@ effect_beside program s t operands (effect.PutStatic n v) none known = static_be
 effect_beside program s t operands (effect.LoadElement r i) none known = beside_itself s
 effect_beside program s t operands (effect.StoreElement r i v) none known =
     record { heap = changed_object s.heap r (with_element i v) (element_becomes i v) (element_sized i v); threads = refl }
-effect_beside program s t operands (effect.Makes what) none known = record { heap = extends_appended s.heap _; threads = refl }
+effect_beside program s t operands (effect.Creates what) none known = record { heap = extends_appended s.heap _; threads = refl }
 effect_beside program s t operands (effect.Prints what ends_line) none known = beside_heap s _ refl refl
 effect_beside program s t operands (effect.Locks monitor) none known = beside_heap s _ refl refl
 effect_beside program s t operands (effect.Unlocks monitor) none known = beside_heap s _ refl refl

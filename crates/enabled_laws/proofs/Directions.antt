@@ -34,16 +34,16 @@ enabled_is_fit (outcome.Bad why) on = absurd (false≢true on)
 enabled_is_fit _ on = refl
 
 takes_by : (program : List Class) (limits : Limits) (start : Start) (s : State) (t u : ℕ) (thread : Thread) (d : TurnDecision) → IsKnown program limits start s → (u ≡ t → ⊥) → slice_get s.threads u ≡ Some thread → is_bad (turn program limits start s u).outcome ≡ false → decide program limits start s t ≡ d → is_taking_decision d ≡ true → Backward (is_enabled (turn program limits start s u).outcome) (is_enabled (turn program limits start (turn program limits start s t).state u).outcome) × (is_enabled (turn program limits start s u).outcome ≡ false → is_bad (turn program limits start (turn program limits start s t).state u).outcome ≡ false)
-takes_by program limits start s t u thread (decision.Unmade o) known other there fit is takes =
+takes_by program limits start s t u thread (decision.Stays o) known other there fit is takes =
     let same = untaken_same program limits start s t u o is fit in
     (λ on. sym same.0 ∙ on, λ off. same.1)
-takes_by program limits start s t u thread (decision.Makes act) known other there fit is takes =
+takes_by program limits start s t u thread (decision.Applies act) known other there fit is takes =
     ⊎_elim
-    (λ (quiet : is_quiet act ≡ true). let same = quiet_by program limits start s t u (decision.Makes act) known other is quiet fit in (λ on. sym same.0 ∙ on, λ off. same.1))
+    (λ (quiet : is_quiet act ≡ true). let same = quiet_by program limits start s t u (decision.Applies act) known other is quiet fit in (λ on. sym same.0 ∙ on, λ off. same.1))
     (λ (loud : is_quiet act ≡ false).
     let own = decided_makes program limits start s t act is in
     let turned = turned_rel Backward backward program limits start s t u thread known other there
-    (subst (λ (r : State). Turned Backward backward t s r) (sym (decided_state program limits start s t (decision.Makes act) is)) (action_takes program start s t own.0 own.1 act takes loud))
+    (subst (λ (r : State). Turned Backward backward t s r) (sym (decided_state program limits start s t (decision.Applies act) is)) (action_takes program start s t own.0 own.1 act takes loud))
     (λ key. inr (λ b _. refl))
     (action_keeps_waits program limits start s t u act known other is)
     fit in
@@ -51,15 +51,15 @@ takes_by program limits start s t u thread (decision.Makes act) known other ther
     (cases_Bool (is_quiet act))
 
 gives_by : (program : List Class) (limits : Limits) (start : Start) (s : State) (t u : ℕ) (thread : Thread) (d : TurnDecision) → IsKnown program limits start s → (u ≡ t → ⊥) → slice_get s.threads u ≡ Some thread → is_bad (turn program limits start s u).outcome ≡ false → decide program limits start s t ≡ d → is_giving_decision d ≡ true → Forward (is_enabled (turn program limits start s u).outcome) (is_enabled (turn program limits start (turn program limits start s t).state u).outcome) × (is_bad (turn program limits start (turn program limits start s t).state u).outcome ≡ false)
-gives_by program limits start s t u thread (decision.Unmade o) known other there fit is gives =
+gives_by program limits start s t u thread (decision.Stays o) known other there fit is gives =
     let same = untaken_same program limits start s t u o is fit in
     (λ on. same.0 ∙ on, same.1)
-gives_by program limits start s t u thread (decision.Makes act) known other there fit is gives =
+gives_by program limits start s t u thread (decision.Applies act) known other there fit is gives =
     ⊎_elim
-    (λ (quiet : is_quiet act ≡ true). let same = quiet_by program limits start s t u (decision.Makes act) known other is quiet fit in (λ on. same.0 ∙ on, same.1))
+    (λ (quiet : is_quiet act ≡ true). let same = quiet_by program limits start s t u (decision.Applies act) known other is quiet fit in (λ on. same.0 ∙ on, same.1))
     (λ (loud : is_quiet act ≡ false).
     let own = decided_makes program limits start s t act is in
-    let made = sym (decided_state program limits start s t (decision.Makes act) is) in
+    let made = sym (decided_state program limits start s t (decision.Applies act) is) in
     let statics : AreSized s.statics (turn program limits start s t).state.statics = subst (λ (r : State). AreSized s.statics r.statics) made (action_statics program start s t act (giving_begins_none act gives) (action_known program limits start s t act known is)) in
     let turned = turned_rel Forward forward program limits start s t u thread known other there
     (subst (λ (r : State). Turned Forward forward t s r) made

@@ -11,9 +11,9 @@ use Rattle.jvms_file.specs.declared.insn.ArrayKind.{ArrayKind}
 use Rattle.jvms_file.specs.declared.insn.FieldUse.{FieldUse}
 use Rattle.jvms_machine.proofs.ListLaws.{all_at, all_drop}
 use Rattle.jvms_machine.specs.Activations.{has_depth}
-use Rattle.jvms_machine.specs.Arrays.{array_decision, array_length_decision, element_at, element_size, fits_component, is_reference_kind, kind_of_elements, load_from, load_operands, loaded, measured, serves, store_below, store_operands, store_to, stored}
+use Rattle.jvms_machine.specs.Arrays.{array_decision, array_length_decision, element_at, element_size, fits_component, is_reference_kind, kind_of_elements, load_from, load_operands, element_load_decision, object_length_decision, serves, store_below, store_operands, store_to, element_store_decision}
 use Rattle.jvms_machine.specs.Decisions.{bad}
-use Rattle.jvms_machine.specs.Fields.{are_of_field, field_decision, field_gives, field_takes, fields_of, found_field_decision, instance_decision, numbered_field_decision, object_decision, object_of_use, reaches, read, resolved_field_decision, static_decision}
+use Rattle.jvms_machine.specs.Fields.{are_of_field, field_decision, field_gives, field_takes, fields_of, found_field_decision, instance_decision, numbered_field_decision, object_decision, object_of_use, reaches, read_decision, resolved_field_decision, static_decision}
 use Rattle.jvms_machine.specs.Heap.{component_type, value_of}
 use Rattle.jvms_machine.specs.Places.{top_value, value_size}
 use Rattle.jvms_machine.specs.State.{Activation, IsFrame, IsObject, IsValue, MethodFrame, Object, State, Thread, array, class_object, class_of, instance, text}
@@ -59,7 +59,7 @@ module _ {Rel : Bool → Bool → Type 0} {program : List Class} {limits : Limit
   array_kept (text units) now pair = ap is_array_object pair.becomes
   array_kept (class_object name) now pair = ap is_array_object pair.becomes
 
-  measured_is_on : (r : ℕ) (o : Object) → readiness (measured r o) ≡ ready_or_bad (is_array_object o)
+  measured_is_on : (r : ℕ) (o : Object) → readiness (object_length_decision r o) ≡ ready_or_bad (is_array_object o)
   measured_is_on r (array class elements) = refl
   measured_is_on r (instance class fields) = refl
   measured_is_on r (text units) = refl
@@ -68,7 +68,7 @@ module _ {Rel : Bool → Bool → Type 0} {program : List Class} {limits : Limit
   array_length_same : (operands : List Value) → AreValues thread stays operands → Same thread stays (array_length_decision limits s thread operands) (array_length_decision limits after thread operands)
   array_length_same [] are = same_on thread stays refl
   array_length_same (v ∷ others) are =
-      with_object_same thread stays v measured measured are.0 (λ r was now _ pair. same_on thread stays (measured_is_on r now ∙ ap ready_or_bad (array_kept was now pair) ∙ sym (measured_is_on r was)))
+      with_object_same thread stays v object_length_decision object_length_decision are.0 (λ r was now _ pair. same_on thread stays (measured_is_on r now ∙ ap ready_or_bad (array_kept was now pair) ∙ sym (measured_is_on r was)))
 
   abbrev is_served : ArrayKind → Object → Bool
   is_served k (array class elements) = serves k (component_type class)
@@ -86,7 +86,7 @@ module _ {Rel : Bool → Bool → Type 0} {program : List Class} {limits : Limit
   abbrev HasRoomForAny : MethodFrame → Type 0
   HasRoomForAny frame = (v : Value) → has_depth frame.body 2 (value_size v) frame.activation ≡ true
 
-  loaded_on : (st : State) (frame : MethodFrame) (r : ℕ) (n : ℤ) (o : Option Value) → HasRoomForAny frame → readiness (loaded limits st thread frame r n o) ≡ Some true
+  loaded_on : (st : State) (frame : MethodFrame) (r : ℕ) (n : ℤ) (o : Option Value) → HasRoomForAny frame → readiness (element_load_decision limits st thread frame r n o) ≡ Some true
   loaded_on st frame r n None room = throws_on limits st thread thrown.ArrayIndexOutOfBoundsException
   loaded_on st frame r n (Some v) room =
       on_or_bad (has_depth frame.body 2 (value_size v) frame.activation) (reaches (effect.LoadElement r (unsigned_abs n)) (frame_action.Push 2 v)) (bad cause.Depth) refl refl ∙ ap ready_or_bad (room v)
@@ -103,7 +103,7 @@ module _ {Rel : Bool → Bool → Type 0} {program : List Class} {limits : Limit
       (λ r was now _ pair. same_on thread stays (load_is_on after frame k n r now room ∙ ap ready_or_bad (served_kept k was now pair) ∙ sym (load_is_on s frame k n r was room)))
   loads_same frame k _ are room = same_on thread stays refl
 
-  stored_on : (st : State) (a : Activation) (k : ArrayKind) (v : Value) (n : ℤ) (r : ℕ) (class : List ℕ) (o : Option Value) → readiness (stored program limits st thread a k v n r class o) ≡ Some true
+  stored_on : (st : State) (a : Activation) (k : ArrayKind) (v : Value) (n : ℤ) (r : ℕ) (class : List ℕ) (o : Option Value) → readiness (element_store_decision program limits st thread a k v n r class o) ≡ Some true
   stored_on st a k v n r class None = throws_on limits st thread thrown.ArrayIndexOutOfBoundsException
   stored_on st a k v n r class (Some old) =
       on_either (is_reference_kind k && not (fits_component program st class v)) _ _ (throws_on limits st thread thrown.ArrayStoreException) refl
@@ -141,7 +141,7 @@ module _ {Rel : Bool → Bool → Type 0} {program : List Class} {limits : Limit
   read_by true true what x y tells = same_on thread stays refl
   read_by true false what x y tells = ⊎_elim (λ (room : false ≡ true). absurd (false≢true room)) (λ (free : (d : Bool) → Rel true d). IsFree None free) (tells refl)
 
-  read_same : (frame : MethodFrame) (what : Effect (List ℕ)) (takes : ℕ) (key : FieldKey) (o p : Option Value) → is_some p ≡ is_some o → IsSized key o p ⊎ ((b : Bool) → Rel true b) → has_depth frame.body takes (units_of (field_type key.descriptor)) frame.activation ≡ true → Same thread stays (read frame what takes o) (read frame what takes p)
+  read_same : (frame : MethodFrame) (what : Effect (List ℕ)) (takes : ℕ) (key : FieldKey) (o p : Option Value) → is_some p ≡ is_some o → IsSized key o p ⊎ ((b : Bool) → Rel true b) → has_depth frame.body takes (units_of (field_type key.descriptor)) frame.activation ≡ true → Same thread stays (read_decision frame what takes o) (read_decision frame what takes p)
   read_same frame what takes key None None some sized deep = same_on thread stays refl
   read_same frame what takes key None (Some w) some sized deep = absurd (true≢false some)
   read_same frame what takes key (Some v) None some sized deep = absurd (false≢true some)

@@ -8,14 +8,14 @@ use Rattle.jvms_file.specs.Names.{same_text}
 use Rattle.jvms_file.specs.declared.insn.Invoke.{Invoke}
 use Rattle.jvms_machine.proofs.ListLaws.{all_at}
 use Rattle.jvms_machine.specs.Activations.{has_depth}
-use Rattle.jvms_machine.specs.Calls.{are_of_call, call_decision, invoke_decision, receiver_call_decision, receiver_of, resolved_call_decision, selected, selected_decision, static_call_decision, taken, wrong_receiver}
+use Rattle.jvms_machine.specs.Calls.{are_of_call, call_decision, invoke_decision, receiver_call_decision, receiver_of, resolved_call_decision, selected_method, selected_decision, static_call_decision, slots_of_call, wrong_receiver}
 use Rattle.jvms_machine.specs.Decisions.{TurnDecision}
 use Rattle.jvms_machine.specs.Fields.{reaches, taking}
 use Rattle.jvms_machine.specs.Natives.{native_of_class, object_printed, print_decision, value_printed}
 use Rattle.jvms_machine.specs.Places.{whole_top}
 use Rattle.jvms_machine.specs.State.{Activation, IsValue, MethodFrame, Object, State, Thread, array, class_object, class_of, instance, monitor_at, result_length, same_object, text}
 use Rattle.jvms_machine.specs.Threads.{join_decision, start_decision, thread_native_decision, thread_of}
-use Rattle.jvms_machine.specs.Waiting.{object_native_decision, owned, waits_or_notifies}
+use Rattle.jvms_machine.specs.Waiting.{object_native_decision, owner_decision, waits_or_notifies}
 use Rattle.jvms_machine.specs.declared.machine.Limits.{Limits}
 use Rattle.jvms_machine.specs.declared.state.Hold.{Hold}
 use Rattle.jvms_machine.specs.declared.value.Value.{Value}
@@ -101,7 +101,7 @@ module _ {Rel : Bool → Bool → Type 0} {program : List Class} {limits : Limit
 
   join_by : (st : State) (a : Activation) (v : ℕ) (o : Option Thread) → v < length st.threads → o ≡ slice_get st.threads v → readiness (join_decision st a (Some v)) ≡ Some (is_over o)
   join_by st a v None within e = absurd (none-some (get_or st.threads v thread) (e ∙ slice_get-get_or st.threads v thread within))
-  join_by st a v (Some other) within e = rw (← e) (on_if other.ended (reaches (effect.Joins v) (taking 1 a)) (decision.Unmade (outcome.Blocked (blocked.Join v))) refl refl)
+  join_by st a v (Some other) within e = rw (← e) (on_if other.ended (reaches (effect.Joins v) (taking 1 a)) (decision.Stays (outcome.Blocked (blocked.Join v))) refl refl)
 
   join_is_on : (st : State) (a : Activation) (r : ℕ) (o : Option ℕ) → thread_of st.threads r ≡ o → readiness (join_decision st a o) ≡ Some (may_join st.threads o)
   join_is_on st a r None started = refl
@@ -114,7 +114,7 @@ module _ {Rel : Bool → Bool → Type 0} {program : List Class} {limits : Limit
       (related_both thread stays (join_is_on s a r (thread_of s.threads r) refl) (join_is_on after a r (thread_of after.threads r) refl) (stays.joins r))
   thread_native_same a m _ = same_on thread stays refl
 
-  owned_on : (st : State) (o : Option Hold) (make : ℕ → TurnDecision) → ((count : ℕ) → readiness (make count) ≡ Some true) → readiness (owned limits st u thread o make) ≡ Some true
+  owned_on : (st : State) (o : Option Hold) (make : ℕ → TurnDecision) → ((count : ℕ) → readiness (make count) ≡ Some true) → readiness (owner_decision limits st u thread o make) ≡ Some true
   owned_on st None make on = throws_on limits st thread thrown.IllegalMonitorStateException
   owned_on st (Some h) make on = on_either (h.owner == u) _ _ (on h.count) (throws_on limits st thread thrown.IllegalMonitorStateException)
 
@@ -138,7 +138,7 @@ module _ {Rel : Bool → Bool → Type 0} {program : List Class} {limits : Limit
 
   call_same : (a : Activation) (receiver : Option ℕ) (takes : ℕ) (n : MethodNumber) (m : Method) → AreValues thread stays a.operands → Same thread stays (call_decision program limits s u thread a receiver takes n m) (call_decision program limits after u thread a receiver takes n m)
   call_same a receiver takes n m are =
-      called_same thread stays n m receiver takes _ _ (λ body locked. decision.Makes (action.Calls n body takes locked)) (native_same a takes m (slice_get program n.class) are) (λ body locked. refl)
+      called_same thread stays n m receiver takes _ _ (λ body locked. decision.Applies (action.Calls n body takes locked)) (native_same a takes m (slice_get program n.class) are) (λ body locked. refl)
 
   static_call_same : (a : Activation) (takes : ℕ) (f : ResolvedMethod) → AreValues thread stays a.operands → Same thread stays (static_call_decision program limits s u thread a takes f) (static_call_decision program limits after u thread a takes f)
   static_call_same a takes f are =
@@ -158,11 +158,11 @@ module _ {Rel : Bool → Bool → Type 0} {program : List Class} {limits : Limit
   -- The decision on a call for an object of a class.
   abbrev for_class : State → MethodFrame → Invoke → MethodReference → ResolvedMethod → ℕ → List ℕ → TurnDecision
   for_class st frame how r f q c =
-      cond (fits program c f.class.name) (selected_decision program limits st u thread frame.activation q (taken how r.method_type) (selected program frame how r c f)) (wrong_receiver limits st thread how)
+      cond (fits program c f.class.name) (selected_decision program limits st u thread frame.activation q (slots_of_call how r.method_type) (selected_method program frame how r c f)) (wrong_receiver limits st thread how)
 
   for_class_same : (frame : MethodFrame) (how : Invoke) (r : MethodReference) (f : ResolvedMethod) (q : ℕ) (c : List ℕ) → AreValues thread stays frame.activation.operands → Same thread stays (for_class s frame how r f q c) (for_class after frame how r f q c)
   for_class_same frame how r f q c are =
-      same_either thread stays (fits program c f.class.name) _ _ _ _ (selected_same frame.activation q (taken how r.method_type) (selected program frame how r c f) are) (wrong_receiver_same how)
+      same_either thread stays (fits program c f.class.name) _ _ _ _ (selected_same frame.activation q (slots_of_call how r.method_type) (selected_method program frame how r c f) are) (wrong_receiver_same how)
 
   receiver_call_same : (frame : MethodFrame) (how : Invoke) (r : MethodReference) (f : ResolvedMethod) (o : Option Value) → AreValues thread stays frame.activation.operands → ((v : Value) → o ≡ Some v → IsValue s.heap v) → Same thread stays (receiver_call_decision program limits s u thread frame how r f o) (receiver_call_decision program limits after u thread frame how r f o)
   receiver_call_same frame how r f (Some (value.Reference q)) are is =
@@ -175,13 +175,13 @@ module _ {Rel : Bool → Bool → Type 0} {program : List Class} {limits : Limit
   resolved_call_same : (frame : MethodFrame) (how : Invoke) (r : MethodReference) (o : Result ResolvedMethod Thrown) → AreValues thread stays frame.activation.operands → Same thread stays (resolved_call_decision program limits s u thread frame how r o) (resolved_call_decision program limits after u thread frame how r o)
   resolved_call_same frame how r (Err class) are = thrown_same thread stays class
   resolved_call_same frame how r (Ok f) are =
-      same_either thread stays (is_static_call how) _ _ _ _ (static_call_same frame.activation (taken how r.method_type) f are)
+      same_either thread stays (is_static_call how) _ _ _ _ (static_call_same frame.activation (slots_of_call how r.method_type) f are)
       (receiver_call_same frame how r f (receiver_of r.method_type frame.activation.operands) are
       (λ v at. all_at (IsValue s.heap) frame.activation.operands (parameter_units r.method_type) v at are))
 
   pub invoke_same : (frame : MethodFrame) (how : Invoke) (r : MethodReference) → AreValues thread stays frame.activation.operands → Same thread stays (invoke_decision program limits s u thread frame how r) (invoke_decision program limits after u thread frame how r)
   unfolding invoke_decision
   invoke_same frame how r are =
-      same_either thread stays (not (has_depth frame.body (taken how r.method_type) (result_length r.method_type.result) frame.activation)) _ _ _ _ (same_on thread stays refl)
+      same_either thread stays (not (has_depth frame.body (slots_of_call how r.method_type) (result_length r.method_type.result) frame.activation)) _ _ _ _ (same_on thread stays refl)
       (same_either thread stays (not (are_of_call how r.method_type frame.activation.operands)) _ _ _ _ (same_on thread stays refl)
       (resolved_call_same frame how r (resolved_method program (is_static_call how) r) are))

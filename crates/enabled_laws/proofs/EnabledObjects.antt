@@ -129,7 +129,7 @@ module _ {Rel : Bool → Bool → Type 0} {program : List Class} {limits : Limit
 
   first_same : (receiver : Option ℕ) (count : ℕ) (n : MethodNumber) (m : Method) → Same thread stays (first_call program limits s u thread receiver count n m) (first_call program limits after u thread receiver count n m)
   first_same receiver count n m =
-      called_same thread stays n m receiver count _ _ (λ body locked. decision.Makes (action.Enters n body locked)) (thrown_same thread stays thrown.UnsatisfiedLinkError) (λ body locked. refl)
+      called_same thread stays n m receiver count _ _ (λ body locked. decision.Applies (action.Enters n body locked)) (thrown_same thread stays thrown.UnsatisfiedLinkError) (λ body locked. refl)
 
   entry_same : (start : Start) (o : Option Method) → Same thread stays (entry_decision program limits start s u thread o) (entry_decision program limits start after u thread o)
   entry_same start None = same_on thread stays refl
@@ -161,9 +161,9 @@ module _ {Rel : Bool → Bool → Type 0} {program : List Class} {limits : Limit
   initializer_same c class None = same_on thread stays refl
   initializer_same c class (Some n) = initializer_call_same _ _
 
-  superclass_same : (o : Option ℕ) (go_on next : TurnDecision) → Same thread stays go_on next → Same thread stays (superclass_decision program limits s u thread o go_on) (superclass_decision program limits after u thread o next)
-  superclass_same None go_on next same = same
-  superclass_same (Some super) go_on next same = asking_same thread stays super go_on next same
+  superclass_same : (o : Option ℕ) (continued next : TurnDecision) → Same thread stays continued next → Same thread stays (superclass_decision program limits s u thread o continued) (superclass_decision program limits after u thread o next)
+  superclass_same None continued next same = same
+  superclass_same (Some super) continued next same = asking_same thread stays super continued next same
 
   pub initialisation_same : (class : ℕ) (called : Bool) (o : Option Class) → Same thread stays (initialisation_decision program limits s u thread class called o) (initialisation_decision program limits after u thread class called o)
   initialisation_same class called None = same_on thread stays refl

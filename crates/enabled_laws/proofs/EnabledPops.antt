@@ -70,7 +70,7 @@ module _ {Rel : Bool → Bool → Type 0} {program : List Class} {limits : Limit
 
   popped_call_on : (st : State) (f : MethodFrame) (below : List Frame) → readiness (popped_decision limits st u f below) ≡ Some true
   popped_call_on st f below =
-      unlocking_on st f.monitor (fails_to_unlock limits st f.method below) (λ unlock. decision.Makes (action.Unwinds f.method (is_empty below) unlock)) (popped_on (is_empty below)) (λ unlock. popped_on (is_empty below))
+      unlocking_on st f.monitor (fails_to_unlock limits st f.method below) (λ unlock. decision.Applies (action.Unwinds f.method (is_empty below) unlock)) (popped_on (is_empty below)) (λ unlock. popped_on (is_empty below))
 
   handler_same : (f : MethodFrame) (below : List Frame) (r : ℕ) (o : Option ExceptionHandler) → Same thread stays (handler_decision limits s u f below r o) (handler_decision limits after u f below r o)
   handler_same f below r None = same_on thread stays (popped_call_on after f below ∙ sym (popped_call_on s f below))
@@ -91,7 +91,7 @@ module _ {Rel : Bool → Bool → Type 0} {program : List Class} {limits : Limit
 
   throwable_same : (r : ℕ) (was now : Object) → IsPair thread stays was now → Same thread stays (throwable_decision program r was) (throwable_decision program r now)
   throwable_same r was now pair =
-      same_on thread stays (ap (λ (b : Bool). readiness (cond b (decision.Makes (action.Throws r)) (bad cause.Kind))) (fits_same thread stays was now (codes "java/lang/Throwable") pair))
+      same_on thread stays (ap (λ (b : Bool). readiness (cond b (decision.Applies (action.Throws r)) (bad cause.Kind))) (fits_same thread stays was now (codes "java/lang/Throwable") pair))
 
   throw_top_same : (operands : List Value) → AreValues thread stays operands → Same thread stays (throw_top program limits s thread operands) (throw_top program limits after thread operands)
   throw_top_same [] are = same_on thread stays refl

@@ -4,7 +4,7 @@ use Rattle.enabled_laws.proofs.Kept.{may_enter, may_lock}
 use Rattle.enabled_laws.proofs.Related.{AsBefore, Asked, IsFit, Related, Stays, WaitsNow, WasBad, on_either, on_unless, readiness, ready_or_bad, throws_on}
 use Rattle.jvms_machine.specs.Activations.{has_depth}
 use Rattle.jvms_machine.specs.Arrays.{if_deep, making, with_int, with_object_of}
-use Rattle.jvms_machine.specs.Calls.{called_decision, enter_decision, numbered, with_body}
+use Rattle.jvms_machine.specs.Calls.{called_decision, enter_decision, with_method, with_body}
 use Rattle.jvms_machine.specs.Decisions.{TurnDecision}
 use Rattle.jvms_machine.specs.Exceptions.{has_room_for, throws}
 use Rattle.jvms_machine.specs.Heap.{class_name_at, next_reference}
@@ -69,28 +69,28 @@ module _ {Rel : Bool → Bool → Type 0} {program : List Class} {limits : Limit
       on_either (not (has_room_for (length (new_texts r.heap (constants_of c.fields))) limits r)) _ _ (throws_on limits r thread thrown.OutOfMemoryError)
       (on_either (nat_le limits.frames (length thread.frames)) _ _ (throws_on limits r thread thrown.StackOverflowError) refl)
 
-  asking_at_same : (class : ℕ) (o : Option Initialisation) (go_on next : TurnDecision) → Same go_on next → Same (requiring_class_in program limits s u thread class o go_on) (requiring_class_in program limits after u thread class o next)
-  asking_at_same class None go_on next same = same_on refl
-  asking_at_same class (Some initialisation.NotBegun) go_on next same = same_on (begin_is_on after class (slice_get program class) ∙ sym (begin_is_on s class (slice_get program class)))
-  asking_at_same class (Some (initialisation.InProgress v)) go_on next same = same_either (v == u) _ _ _ _ same (same_on refl)
-  asking_at_same class (Some initialisation.Done) go_on next same = same
-  asking_at_same class (Some initialisation.Erroneous) go_on next same = thrown_same thrown.NoClassDefFoundError
+  asking_at_same : (class : ℕ) (o : Option Initialisation) (continued next : TurnDecision) → Same continued next → Same (requiring_class_in program limits s u thread class o continued) (requiring_class_in program limits after u thread class o next)
+  asking_at_same class None continued next same = same_on refl
+  asking_at_same class (Some initialisation.NotBegun) continued next same = same_on (begin_is_on after class (slice_get program class) ∙ sym (begin_is_on s class (slice_get program class)))
+  asking_at_same class (Some (initialisation.InProgress v)) continued next same = same_either (v == u) _ _ _ _ same (same_on refl)
+  asking_at_same class (Some initialisation.Done) continued next same = same
+  asking_at_same class (Some initialisation.Erroneous) continued next same = thrown_same thrown.NoClassDefFoundError
 
   -- A thread waits for a class that another thread initialises.
-  waits_off : (st : State) (class v : ℕ) (go_on : TurnDecision) → (v == u) ≡ false → readiness (requiring_class_in program limits st u thread class (Some (initialisation.InProgress v)) go_on) ≡ Some false
-  waits_off st class v go_on other = cond_both (v == u) _ _ (λ (d : TurnDecision). readiness d ≡ Some false) (λ own. absurd (false≢true (sym other ∙ own))) (λ _. refl)
+  waits_off : (st : State) (class v : ℕ) (continued : TurnDecision) → (v == u) ≡ false → readiness (requiring_class_in program limits st u thread class (Some (initialisation.InProgress v)) continued) ≡ Some false
+  waits_off st class v continued other = cond_both (v == u) _ _ (λ (d : TurnDecision). readiness d ≡ Some false) (λ own. absurd (false≢true (sym other ∙ own))) (λ _. refl)
 
   waits_now : (o : Option Bool) → ((a : Bool) → Rel a false) → Related Rel o (Some false)
   waits_now None tells = WasBad (Some false)
   waits_now (Some a) tells = IsFit a false (tells a)
 
-  asked_same : (class : ℕ) (o p : Option Initialisation) (go_on next : TurnDecision) → Asked Rel u o p → Same go_on next → Same (requiring_class_in program limits s u thread class o go_on) (requiring_class_in program limits after u thread class p next)
-  asked_same class o p go_on next (AsBefore q) same = asking_at_same class q go_on next same
-  asked_same class o p go_on next (WaitsNow q v other tells) same =
-      related_after (waits_off after class v next other) (waits_now (readiness (requiring_class_in program limits s u thread class q go_on)) tells)
+  asked_same : (class : ℕ) (o p : Option Initialisation) (continued next : TurnDecision) → Asked Rel u o p → Same continued next → Same (requiring_class_in program limits s u thread class o continued) (requiring_class_in program limits after u thread class p next)
+  asked_same class o p continued next (AsBefore q) same = asking_at_same class q continued next same
+  asked_same class o p continued next (WaitsNow q v other tells) same =
+      related_after (waits_off after class v next other) (waits_now (readiness (requiring_class_in program limits s u thread class q continued)) tells)
 
-  pub asking_same : (class : ℕ) (go_on next : TurnDecision) → Same go_on next → Same (asking program limits s u thread class go_on) (asking program limits after u thread class next)
-  asking_same class go_on next same = asked_same class (slice_get s.initialisations class) (slice_get after.initialisations class) go_on next (stays.asked class) same
+  pub asking_same : (class : ℕ) (continued next : TurnDecision) → Same continued next → Same (asking program limits s u thread class continued) (asking program limits after u thread class next)
+  asking_same class continued next same = asked_same class (slice_get s.initialisations class) (slice_get after.initialisations class) continued next (stays.asked class) same
 
   -- ---- Monitors
 
@@ -134,11 +134,11 @@ module _ {Rel : Bool → Bool → Type 0} {program : List Class} {limits : Limit
       same_either m.flags.is_abstract _ _ _ _ (thrown_same thrown.AbstractMethodError)
       (same_either m.flags.is_native _ _ _ _ same (with_body_same n m receiver arguments m.body make on))
 
-  numbered_by : (n : MethodNumber) (o : Option Method) (make making : MethodNumber → Method → TurnDecision) → o ≡ method_at program n → ((m : Method) → Same (make n m) (making n m)) → Same (numbered program (Some n) make) (numbered program (Some n) making)
+  numbered_by : (n : MethodNumber) (o : Option Method) (make making : MethodNumber → Method → TurnDecision) → o ≡ method_at program n → ((m : Method) → Same (make n m) (making n m)) → Same (with_method program (Some n) make) (with_method program (Some n) making)
   numbered_by n None make making e same = rw (← e) (same_on refl)
   numbered_by n (Some m) make making e same = rw (← e) (same m)
 
-  pub numbered_same : (o : Option MethodNumber) (make making : MethodNumber → Method → TurnDecision) → ((n : MethodNumber) (m : Method) → Same (make n m) (making n m)) → Same (numbered program o make) (numbered program o making)
+  pub numbered_same : (o : Option MethodNumber) (make making : MethodNumber → Method → TurnDecision) → ((n : MethodNumber) (m : Method) → Same (make n m) (making n m)) → Same (with_method program o make) (with_method program o making)
   numbered_same None make making same = same_on refl
   numbered_same (Some n) make making same = numbered_by n (method_at program n) make making refl (same n)
 

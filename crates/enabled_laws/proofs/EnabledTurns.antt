@@ -67,7 +67,7 @@ module _ {Rel : Bool → Bool → Type 0} {program : List Class} {limits : Limit
   stack_same start (stack_frame.Initialisation class called ∷ below) are object = initialisation_same thread stays class called (slice_get program class)
   stack_same start (stack_frame.Call frame ∷ below) are object = frame_turn_same frame below (instruction_at frame) are.0 refl
 
-  retaking_is_on : (w : Wait) (b : Bool) (o : Option Hold) → readiness (cond b (decision.Unmade (outcome.Blocked (blocked.Wait w.reference))) (retaking w o)) ≡ Some (not b && is_none o)
+  retaking_is_on : (w : Wait) (b : Bool) (o : Option Hold) → readiness (cond b (decision.Stays (outcome.Blocked (blocked.Wait w.reference))) (retaking w o)) ≡ Some (not b && is_none o)
   retaking_is_on w true o = refl
   retaking_is_on w false None = refl
   retaking_is_on w false (Some h) = refl

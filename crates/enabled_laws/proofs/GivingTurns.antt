@@ -6,7 +6,7 @@ use Rattle.enabled_laws.proofs.QuietActions.{exception_initialises_none, excepti
 use Rattle.enabled_laws.proofs.Related.{IsRelation}
 use Rattle.enabled_laws.proofs.Turned.{Turned, beside_turned}
 use Rattle.enabled_laws.specs.Quiet.{is_giving, is_giving_effect, is_quiet, is_quiet_effect}
-use Rattle.jvms_machine.specs.Actions.{affected, applied_to, failed, thread_after_action, operands_of, put_to_wait, raised, returned, unwound, with_changed, with_exception, with_result, with_unlock, with_waiter}
+use Rattle.jvms_machine.specs.Actions.{affected, applied_to, after_failure, thread_after_action, operands_of, put_to_wait, with_pending, after_return, unwound, with_changed, with_exception, with_result, with_unlock, with_waiter}
 use Rattle.jvms_machine.specs.Decisions.{TurnAction}
 use Rattle.jvms_machine.specs.Exceptions.{exception_reference}
 use Rattle.jvms_machine.specs.Monitors.{left_monitor}
@@ -102,7 +102,7 @@ module _ (program : List Class) (limits : Limits) (start : Start) (s : State) (t
   effect_gives (effect.PutStatic n v) act others gives loud = absurd (true≢false loud)
   effect_gives (effect.LoadElement r i) act others gives loud = absurd (true≢false loud)
   effect_gives (effect.StoreElement r i v) act others gives loud = absurd (true≢false loud)
-  effect_gives (effect.Makes what) act others gives loud = absurd (true≢false loud)
+  effect_gives (effect.Creates what) act others gives loud = absurd (true≢false loud)
   effect_gives (effect.Prints what ends_line) act others gives loud = absurd (true≢false loud)
   effect_gives (effect.Joins u) act others gives loud = absurd (true≢false loud)
   effect_gives (effect.Notifies r all) act others gives loud = absurd (true≢false loud)
@@ -116,16 +116,16 @@ module _ (program : List Class) (limits : Limits) (start : Start) (s : State) (t
   action_gives (action.Enters method body locked) gives loud = absurd (true≢false (sym gives ∙ loud))
   action_gives (action.Ends method result unlock) gives loud = result_gives _ result (unlock_gives unlock _ refl)
   action_gives (action.Calls method body count locked) gives loud = absurd (true≢false (sym gives ∙ loud))
-  action_gives (action.Returns method result unlock) gives loud = unlock_gives unlock (returned result) refl
+  action_gives (action.Returns method result unlock) gives loud = unlock_gives unlock (after_return result) refl
   action_gives (action.Initialises method body) gives loud = absurd (true≢false loud)
   action_gives (action.Throws r) gives loud = absurd (true≢false loud)
   action_gives (action.Catches r target) gives loud = absurd (true≢false loud)
   action_gives (action.Unwinds method last unlock) gives loud = unlock_gives unlock (unwound last) refl
-  action_gives (action.FailsToUnlock method e last) gives loud = exception_gives e (λ thread. unwound last (raised (exception_reference s e) thread)) refl
+  action_gives (action.FailsToUnlock method e last) gives loud = exception_gives e (λ thread. unwound last (with_pending (exception_reference s e) thread)) refl
   action_gives (action.FailsInitialisation class e last) gives loud = absurd (false≢true gives)
   action_gives (action.Waits w) gives loud =
       beside_turned Forward forward s (with_waiter s t w.reference) t (put_to_wait w) own at (beside_heap s _ refl refl) refl (λ on. on)
       (λ v r _. removed_forward s.heap s.threads w.reference s.monitors sound.monitors v r) refl
   action_gives (action.Retakes w) gives loud = absurd (false≢true gives)
   action_gives (action.Raises e) gives loud = absurd (true≢false loud)
-  action_gives (action.Fails e) gives loud = exception_gives e (failed (exception_reference s e)) refl
+  action_gives (action.Fails e) gives loud = exception_gives e (after_failure (exception_reference s e)) refl

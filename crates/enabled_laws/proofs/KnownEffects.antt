@@ -43,7 +43,7 @@ IsKnownAction program s (action.Reaches what act) = IsKnownEffect program s what
 IsKnownAction program s _ = Unit {0}
 
 abbrev pub IsKnownDecision : List Class → State → TurnDecision → Type 0
-IsKnownDecision program s (decision.Makes act) = IsKnownAction program s act
+IsKnownDecision program s (decision.Applies act) = IsKnownAction program s act
 IsKnownDecision program s _ = Unit {0}
 
 -- ---- Sizes

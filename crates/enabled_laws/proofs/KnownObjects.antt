@@ -4,11 +4,11 @@ use Rattle.jvms_file.specs.declared.insn.ArrayInsn.{ArrayInsn}
 use Rattle.jvms_file.specs.declared.insn.ArrayKind.{ArrayKind}
 use Rattle.jvms_file.specs.declared.insn.ClassUse.{ClassUse}
 use Rattle.jvms_machine.specs.Activations.{has_depth}
-use Rattle.jvms_machine.specs.Arrays.{array_decision, array_length_decision, counted_lengths, element_at, element_size, fits_component, if_deep, is_int, is_negative, is_reference_kind, kind_of_elements, length_decision, lengths_in, load_from, load_operands, loaded, measured, new_arrays_decision, new_arrays_room, new_class_array_decision, serves, store_below, store_operands, store_to, stored, with_object_of}
+use Rattle.jvms_machine.specs.Arrays.{array_decision, array_length_decision, counted_lengths, element_at, element_size, fits_component, if_deep, is_int, is_negative, is_reference_kind, kind_of_elements, length_decision, lengths_in, load_from, load_operands, element_load_decision, object_length_decision, new_arrays_decision, new_arrays_room, new_class_array_decision, serves, store_below, store_operands, store_to, element_store_decision, with_object_of}
 use Rattle.jvms_machine.specs.Calls.{entry_decision, first_call, first_call_decision, run_decision, run_of_class, run_of_object, selected_run}
 use Rattle.jvms_machine.specs.Decisions.{TurnDecision}
 use Rattle.jvms_machine.specs.Exceptions.{has_room_for, throws}
-use Rattle.jvms_machine.specs.Fields.{read}
+use Rattle.jvms_machine.specs.Fields.{read_decision}
 use Rattle.jvms_machine.specs.Heap.{array_of_class, array_of_type, arrays_made, component_type, elements_made, has_dimensions, has_room_for_elements}
 use Rattle.jvms_machine.specs.Initialisation.{asked_superclass, asking, initialisation_decision, initializer_call, initializer_decision, initializer_of, superclass_decision}
 use Rattle.jvms_machine.specs.Locking.{enter_object, exit_object, monitor_enter_decision, monitor_exit_decision, on_top_object}
@@ -60,7 +60,7 @@ module _ (program : List Class) (limits : Limits) (s : State) (t : ℕ) (thread 
   deep : (frame : MethodFrame) (takes gives : ℕ) (rest : TurnDecision) → Known rest → Known (if_deep frame takes gives rest)
   deep = if_deep_has program limits s t thread Known tests
 
-  asked : (class : ℕ) (go_on : TurnDecision) → Known go_on → Known (asking program limits s t thread class go_on)
+  asked : (class : ℕ) (continued : TurnDecision) → Known continued → Known (asking program limits s t thread class continued)
   asked = asking_has program limits s t thread Known tests
 
   of_object : (v : Value) (rest : ℕ → Object → TurnDecision) → ((r : ℕ) (o : Object) → Known (rest r o)) → Known (with_object_of limits s thread v rest)
@@ -178,7 +178,7 @@ module _ (program : List Class) (limits : Limits) (s : State) (t : ℕ) (thread 
 
   -- ---- Elements of arrays
 
-  measured_known : (r : ℕ) (o : Object) → Known (measured r o)
+  measured_known : (r : ℕ) (o : Object) → Known (object_length_decision r o)
   measured_known r (array class elements) = tt
   measured_known r (instance class fields) = tt
   measured_known r (text units) = tt
@@ -186,14 +186,14 @@ module _ (program : List Class) (limits : Limits) (s : State) (t : ℕ) (thread 
 
   array_length_known : (operands : List Value) → Known (array_length_decision limits s thread operands)
   array_length_known [] = tt
-  array_length_known (v ∷ others) = of_object v measured measured_known
+  array_length_known (v ∷ others) = of_object v object_length_decision measured_known
 
-  pub read_known : (frame : MethodFrame) (what : Effect (List ℕ)) (takes : ℕ) (o : Option Value) → IsKnownEffect program s what → Known (read frame what takes o)
+  pub read_known : (frame : MethodFrame) (what : Effect (List ℕ)) (takes : ℕ) (o : Option Value) → IsKnownEffect program s what → Known (read_decision frame what takes o)
   read_known frame what takes None known = tt
   read_known frame what takes (Some v) known =
       cond_both (has_depth frame.body takes (value_size v) frame.activation) _ _ Known (λ _. known) (λ _. tt)
 
-  loaded_known : (frame : MethodFrame) (r : ℕ) (n : ℤ) (o : Option Value) → Known (loaded limits s thread frame r n o)
+  loaded_known : (frame : MethodFrame) (r : ℕ) (n : ℤ) (o : Option Value) → Known (element_load_decision limits s thread frame r n o)
   loaded_known frame r n None = throws_is thrown.ArrayIndexOutOfBoundsException
   loaded_known frame r n (Some v) = read_known frame (effect.LoadElement r (unsigned_abs n)) 2 (Some v) tt
 
@@ -208,7 +208,7 @@ module _ (program : List Class) (limits : Limits) (s : State) (t : ℕ) (thread 
   loads_known frame k (value.Int n ∷ o ∷ others) = of_object o (load_from limits s thread frame k n) (load_known frame k n)
   loads_known frame k _ = tt
 
-  stored_known : (a : Activation) (k : ArrayKind) (v : Value) (n : ℤ) (r : ℕ) (class : List ℕ) (o : Option Value) → Known (stored program limits s thread a k v n r class o)
+  stored_known : (a : Activation) (k : ArrayKind) (v : Value) (n : ℤ) (r : ℕ) (class : List ℕ) (o : Option Value) → Known (element_store_decision program limits s thread a k v n r class o)
   stored_known a k v n r class None = throws_is thrown.ArrayIndexOutOfBoundsException
   stored_known a k v n r class (Some old) =
       cond_both (is_reference_kind k && not (fits_component program s class v)) _ _ Known (λ _. throws_is thrown.ArrayStoreException) (λ _. tt)
@@ -241,7 +241,7 @@ module _ (program : List Class) (limits : Limits) (s : State) (t : ℕ) (thread 
 
   first_known : (receiver : Option ℕ) (count : ℕ) (n : MethodNumber) (m : Method) → Known (first_call program limits s t thread receiver count n m)
   first_known receiver count n m =
-      called_has program limits s t thread Known tests n m receiver count _ (λ body locked. decision.Makes (action.Enters n body locked)) (λ _. throws_is thrown.UnsatisfiedLinkError) (λ body locked. tt)
+      called_has program limits s t thread Known tests n m receiver count _ (λ body locked. decision.Applies (action.Enters n body locked)) (λ _. throws_is thrown.UnsatisfiedLinkError) (λ body locked. tt)
 
   entry_known : (start : Start) (o : Option Method) → Known (entry_decision program limits start s t thread o)
   entry_known start None = tt
@@ -275,9 +275,9 @@ module _ (program : List Class) (limits : Limits) (s : State) (t : ℕ) (thread 
   initializer_known c class None = tt
   initializer_known c class (Some n) = initializer_call_known _ _
 
-  superclass_known : (o : Option ℕ) (go_on : TurnDecision) → Known go_on → Known (superclass_decision program limits s t thread o go_on)
-  superclass_known None go_on known = known
-  superclass_known (Some super) go_on known = asked super go_on known
+  superclass_known : (o : Option ℕ) (continued : TurnDecision) → Known continued → Known (superclass_decision program limits s t thread o continued)
+  superclass_known None continued known = known
+  superclass_known (Some super) continued known = asked super continued known
 
   pub initialisation_known : (class : ℕ) (called : Bool) (o : Option Class) → Known (initialisation_decision program limits s t thread class called o)
   initialisation_known class called None = tt

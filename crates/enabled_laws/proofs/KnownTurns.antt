@@ -10,7 +10,7 @@ use Rattle.jvms_file.specs.declared.insn.Invoke.{Invoke}
 use Rattle.jvms_machine.proofs.ListLaws.{all_at}
 use Rattle.jvms_machine.proofs.PlaceLaws.{IsWhole, top_is_whole}
 use Rattle.jvms_machine.specs.Activations.{has_depth}
-use Rattle.jvms_machine.specs.Calls.{are_of_call, call_decision, invoke_decision, object_call_decision, receiver_call_decision, receiver_of, resolved_call_decision, selected, selected_decision, static_call_decision, taken, wrong_receiver}
+use Rattle.jvms_machine.specs.Calls.{are_of_call, call_decision, invoke_decision, object_call_decision, receiver_call_decision, receiver_of, resolved_call_decision, selected_method, selected_decision, static_call_decision, slots_of_call, wrong_receiver}
 use Rattle.jvms_machine.specs.Decisions.{TurnDecision}
 use Rattle.jvms_machine.specs.Exceptions.{throws}
 use Rattle.jvms_machine.specs.Fields.{are_of_field, field_decision, field_gives, field_takes, fields_of, found_field_decision, instance_decision, numbered_field_decision, object_decision, object_of_use, receiver_decision, resolved_field_decision, static_decision, write_decision}
@@ -23,7 +23,7 @@ use Rattle.jvms_machine.specs.State.{Activation, Frame, IsFrame, IsThread, Metho
 use Rattle.jvms_machine.specs.Steps.{frame_decision, instruction_at}
 use Rattle.jvms_machine.specs.Threads.{join_decision, start_decision, thread_native_decision, thread_of}
 use Rattle.jvms_machine.specs.Turn.{decide, frame_turn_decision, frames_decision, started_decision, instruction_decision, reaching_decision, thread_decision}
-use Rattle.jvms_machine.specs.Waiting.{is_waiter, object_native_decision, owned, retaking, waiting_decision, waits_or_notifies}
+use Rattle.jvms_machine.specs.Waiting.{is_waiter, object_native_decision, owner_decision, retaking, waiting_decision, waits_or_notifies}
 use Rattle.jvms_machine.specs.declared.action.FrameDecision.{FrameDecision}
 use Rattle.jvms_machine.specs.declared.machine.Limits.{Limits}
 use Rattle.jvms_machine.specs.declared.state.Hold.{Hold}
@@ -69,7 +69,7 @@ module _ (program : List Class) (limits : Limits) (s : State) (t : ℕ) (thread 
   tests : IsOfTests limits s thread Known
   tests = record { unmade = λ o. tt; thrown_by = throws_is; begun_by = λ class. tt }
 
-  asked : (class : ℕ) (go_on : TurnDecision) → Known go_on → Known (asking program limits s t thread class go_on)
+  asked : (class : ℕ) (continued : TurnDecision) → Known continued → Known (asking program limits s t thread class continued)
   asked = asking_has program limits s t thread Known tests
 
   -- ---- Fields
@@ -172,7 +172,7 @@ module _ (program : List Class) (limits : Limits) (s : State) (t : ℕ) (thread 
   thread_native_known a m _ = tt
 
   -- The owner of a monitor notifies, so the monitor is held.
-  owned_known : (a : Activation) (m : Method) (r : ℕ) (o : Option Hold) → monitor_at s.monitors r ≡ o → Known (owned limits s t thread o (waits_or_notifies a m r))
+  owned_known : (a : Activation) (m : Method) (r : ℕ) (o : Option Hold) → monitor_at s.monitors r ≡ o → Known (owner_decision limits s t thread o (waits_or_notifies a m r))
   owned_known a m r None is = throws_is thrown.IllegalMonitorStateException
   owned_known a m r (Some h) is =
       cond_both (h.owner == t) _ _ Known
@@ -196,7 +196,7 @@ module _ (program : List Class) (limits : Limits) (s : State) (t : ℕ) (thread 
 
   call_known : (a : Activation) (receiver : Option ℕ) (takes : ℕ) (n : MethodNumber) (m : Method) → Known (call_decision program limits s t thread a receiver takes n m)
   call_known a receiver takes n m =
-      called_has program limits s t thread Known tests n m receiver takes _ (λ body locked. decision.Makes (action.Calls n body takes locked)) (λ _. native_known a takes m (slice_get program n.class)) (λ body locked. tt)
+      called_has program limits s t thread Known tests n m receiver takes _ (λ body locked. decision.Applies (action.Calls n body takes locked)) (λ _. native_known a takes m (slice_get program n.class)) (λ body locked. tt)
 
   static_call_known : (a : Activation) (takes : ℕ) (f : ResolvedMethod) → Known (static_call_decision program limits s t thread a takes f)
   static_call_known a takes f =
@@ -214,7 +214,7 @@ module _ (program : List Class) (limits : Limits) (s : State) (t : ℕ) (thread 
   object_call_known frame how r f q None = tt
   object_call_known frame how r f q (Some o) =
       cond_both (fits program (class_of o) f.class.name) _ _ Known
-      (λ _. selected_known frame.activation q (taken how r.method_type) (selected program frame how r (class_of o) f))
+      (λ _. selected_known frame.activation q (slots_of_call how r.method_type) (selected_method program frame how r (class_of o) f))
       (λ _. wrong_receiver_known how)
 
   receiver_call_known : (frame : MethodFrame) (how : Invoke) (r : MethodReference) (f : ResolvedMethod) (o : Option Value) → Known (receiver_call_decision program limits s t thread frame how r f o)
@@ -226,13 +226,13 @@ module _ (program : List Class) (limits : Limits) (s : State) (t : ℕ) (thread 
   resolved_call_known frame how r (Err class) = throws_is class
   resolved_call_known frame how r (Ok f) =
       cond_both (is_static_call how) _ _ Known
-      (λ _. static_call_known frame.activation (taken how r.method_type) f)
+      (λ _. static_call_known frame.activation (slots_of_call how r.method_type) f)
       (λ _. receiver_call_known frame how r f (receiver_of r.method_type frame.activation.operands))
 
   invoke_known : (frame : MethodFrame) (how : Invoke) (r : MethodReference) → Known (invoke_decision program limits s t thread frame how r)
   unfolding invoke_decision
   invoke_known frame how r =
-      cond_both (not (has_depth frame.body (taken how r.method_type) (result_length r.method_type.result) frame.activation)) _ _ Known
+      cond_both (not (has_depth frame.body (slots_of_call how r.method_type) (result_length r.method_type.result) frame.activation)) _ _ Known
       (λ _. tt)
       (λ _. cond_both (not (are_of_call how r.method_type frame.activation.operands)) _ _ Known
       (λ _. tt)

@@ -5,7 +5,7 @@ use Rattle.enabled_laws.proofs.Kept.{AreSameThreads, threads_same, threads_set}
 use Rattle.enabled_laws.proofs.KnownEffects.{IsKnownAction}
 use Rattle.enabled_laws.specs.Kept.{ends_thread}
 use Rattle.jvms_machine.proofs.ListLaws.{get_set_other}
-use Rattle.jvms_machine.specs.Actions.{applied_to, begun, caught, changed_to, first_called, thread_after_action, operands_of, popped, put_to_wait, raised, returned, after_throw, unwound, waited, with_changed, with_initialisation, with_retaken, with_waiter}
+use Rattle.jvms_machine.specs.Actions.{applied_to, with_initialisation_frame, caught, changed_to, first_called, thread_after_action, operands_of, without_top, put_to_wait, with_pending, after_return, after_throw, unwound, after_wait, with_changed, with_initialisation, with_retaken, with_waiter}
 use Rattle.jvms_machine.specs.Decisions.{TurnAction, outcome_of_action}
 use Rattle.jvms_machine.specs.Exceptions.{exception_reference}
 use Rattle.jvms_machine.specs.Start.{Start}
@@ -68,13 +68,13 @@ module _ (program : List Class) (limits : Limits) (start : Start) (s : State) (t
   action_moves (action.Reaches what act) starts ends known =
       same_thread (thread_after_action act) (λ thread. (refl, refl)) _ (effect_beside program s t (operands_of (slice_get s.threads t)) what starts known)
   action_moves (action.Begins class) starts ends known =
-      initialised_moves _ class (initialisation.InProgress t) (same_thread (begun class) (λ thread. (refl, refl)) _ (constants_beside s (slice_get program class)))
-  action_moves (action.Finishes class) starts ends known = initialised_moves _ class initialisation.Done (same_thread popped (λ thread. (refl, refl)) s (beside_itself s))
+      initialised_moves _ class (initialisation.InProgress t) (same_thread (with_initialisation_frame class) (λ thread. (refl, refl)) _ (constants_beside s (slice_get program class)))
+  action_moves (action.Finishes class) starts ends known = initialised_moves _ class initialisation.Done (same_thread without_top (λ thread. (refl, refl)) s (beside_itself s))
   action_moves (action.Enters method body locked) starts ends known =
       same_thread (first_called start method body locked) (λ thread. (refl, refl)) _ (lock_beside program s t locked)
   action_moves (action.Ends method result unlock) starts ends known = absurd (true≢false ends)
   action_moves (action.Calls method body takes locked) starts ends known = same_thread _ (λ thread. (refl, refl)) _ (lock_beside program s t locked)
-  action_moves (action.Returns method result unlock) starts ends known = same_thread (returned result) (λ thread. (refl, refl)) _ (unlock_beside s unlock)
+  action_moves (action.Returns method result unlock) starts ends known = same_thread (after_return result) (λ thread. (refl, refl)) _ (unlock_beside s unlock)
   action_moves (action.Initialises method body) starts ends known = same_thread _ (λ thread. (refl, refl)) s (beside_itself s)
   action_moves (action.Throws r) starts ends known = same_thread (after_throw r) (λ thread. (refl, refl)) s (beside_itself s)
   action_moves (action.Catches r target) starts ends known = same_thread (caught r target) (λ thread. (refl, refl)) s (beside_itself s)
@@ -82,12 +82,12 @@ module _ (program : List Class) (limits : Limits) (start : Start) (s : State) (t
   action_moves (action.Unwinds method false unlock) starts ends known = popped_thread (unwound false) (λ thread. (refl, refl)) _ (unlock_beside s unlock)
   action_moves (action.FailsToUnlock method e true) starts ends known = absurd (true≢false ends)
   action_moves (action.FailsToUnlock method e false) starts ends known =
-      popped_thread (λ thread. unwound false (raised (exception_reference s e) thread)) (λ thread. (refl, refl)) _ (exception_beside program s e)
+      popped_thread (λ thread. unwound false (with_pending (exception_reference s e) thread)) (λ thread. (refl, refl)) _ (exception_beside program s e)
   action_moves (action.FailsInitialisation class e true) starts ends known = absurd (true≢false ends)
   action_moves (action.FailsInitialisation class e false) starts ends known =
       initialised_moves _ class initialisation.Erroneous
-      (popped_thread (λ thread. unwound false (raised (exception_reference s e) thread)) (λ thread. (refl, refl)) _ (exception_beside program s e))
+      (popped_thread (λ thread. unwound false (with_pending (exception_reference s e) thread)) (λ thread. (refl, refl)) _ (exception_beside program s e))
   action_moves (action.Waits w) starts ends known = same_thread (put_to_wait w) (λ thread. (refl, refl)) _ (beside_heap s (with_waiter s t w.reference) refl refl)
-  action_moves (action.Retakes w) starts ends known = same_thread waited (λ thread. (refl, refl)) _ (beside_heap s (with_retaken s t w) refl refl)
-  action_moves (action.Raises e) starts ends known = same_thread (raised (exception_reference s e)) (λ thread. (refl, refl)) _ (exception_beside program s e)
+  action_moves (action.Retakes w) starts ends known = same_thread after_wait (λ thread. (refl, refl)) _ (beside_heap s (with_retaken s t w) refl refl)
+  action_moves (action.Raises e) starts ends known = same_thread (with_pending (exception_reference s e)) (λ thread. (refl, refl)) _ (exception_beside program s e)
   action_moves (action.Fails e) starts ends known = absurd (true≢false ends)

@@ -6,7 +6,7 @@ use Rattle.enabled_laws.proofs.Statics.{begins_none}
 use Rattle.enabled_laws.specs.Kept.{ends_thread}
 use Rattle.enabled_laws.specs.Quiet.{is_inner, is_quiet, is_quiet_effect, is_quiet_lock, is_quiet_unlock}
 use Rattle.jvms_machine.proofs.HeldMonitors.{left_old}
-use Rattle.jvms_machine.specs.Actions.{affected, applied_to, effect_items, exit_items, thread_after_action, items_of, mark, operands_of, put_field, put_static, release_items, returned, unlock_items, unwound, with_changed, with_exception, with_lock, with_unlock}
+use Rattle.jvms_machine.specs.Actions.{affected, applied_to, effect_items, exit_items, thread_after_action, items_of, mark, operands_of, put_field, put_static, release_items, after_return, unlock_items, unwound, with_changed, with_exception, with_lock, with_unlock}
 use Rattle.jvms_machine.specs.Decisions.{TurnAction, outcome_of_action}
 use Rattle.jvms_machine.specs.Events.{is_release, newly_held, releases_between}
 use Rattle.jvms_machine.specs.Monitors.{entered_monitor, left_monitor}
@@ -135,7 +135,7 @@ module _ (program : List Class) (limits : Limits) (start : Start) (s : State) (t
 
   pub exception_keeps : (e : Exception) → KeepsMonitors (with_exception program s e)
   exception_keeps (exception.New class) = λ v r. refl
-  exception_keeps (exception.Held r) = λ v q. refl
+  exception_keeps (exception.Existing r) = λ v q. refl
 
   effect_keeps : (after : State) (operands : List Value) (what : Effect (List ℕ)) → is_quiet_effect what ≡ true → CanBeMade s operands what → (others : List Value) → after.monitors ≡ (affected program s t others what).monitors → filter is_release (effect_items program t what) ≡ releases_between t s after → KeepsMonitors (affected program s t others what)
   effect_keeps after operands effect.Nothing quiet can others made releases = λ w q. refl
@@ -145,7 +145,7 @@ module _ (program : List Class) (limits : Limits) (start : Start) (s : State) (t
   effect_keeps after operands (effect.PutStatic n v) quiet can others made releases = static_keeps v (field_key_at program n)
   effect_keeps after operands (effect.LoadElement r i) quiet can others made releases = λ w q. refl
   effect_keeps after operands (effect.StoreElement r i v) quiet can others made releases = λ w q. refl
-  effect_keeps after operands (effect.Makes what) quiet can others made releases = λ w q. refl
+  effect_keeps after operands (effect.Creates what) quiet can others made releases = λ w q. refl
   effect_keeps after operands (effect.Prints what ends_line) quiet can others made releases = λ w q. refl
   effect_keeps after operands (effect.Locks monitor) quiet can others made releases = entered_keeps monitor quiet can
   effect_keeps after operands (effect.Unlocks monitor) quiet can others made releases =
@@ -169,7 +169,7 @@ module _ (program : List Class) (limits : Limits) (start : Start) (s : State) (t
   action_keeps (action.Ends method result unlock) quiet ready releases = absurd (false≢true quiet)
   action_keeps (action.Calls method body takes locked) quiet ready releases = lock_keeps locked quiet ready.2
   action_keeps (action.Returns method result unlock) quiet ready releases =
-      unlock_keeps (with_changed (with_unlock s unlock) t (returned result)) unlock method quiet refl releases
+      unlock_keeps (with_changed (with_unlock s unlock) t (after_return result)) unlock method quiet refl releases
   action_keeps (action.Initialises method body) quiet ready releases = λ w q. refl
   action_keeps (action.Throws r) quiet ready releases = λ w q. refl
   action_keeps (action.Catches r target) quiet ready releases = λ w q. refl
@@ -205,7 +205,7 @@ module _ (program : List Class) (start : Start) (s : State) (t : ℕ) where
       put_initialises_none (Some key) = refl
   effect_initialises_none others (effect.LoadElement r i) = refl
   effect_initialises_none others (effect.StoreElement r i v) = refl
-  effect_initialises_none others (effect.Makes what) = refl
+  effect_initialises_none others (effect.Creates what) = refl
   effect_initialises_none others (effect.Prints what ends_line) = refl
   effect_initialises_none others (effect.Locks monitor) = refl
   effect_initialises_none others (effect.Unlocks monitor) = refl
@@ -224,7 +224,7 @@ module _ (program : List Class) (start : Start) (s : State) (t : ℕ) where
 
   pub exception_initialises_none : (e : Exception) → KeepsInitialisations (with_exception program s e)
   exception_initialises_none (exception.New class) = refl
-  exception_initialises_none (exception.Held r) = refl
+  exception_initialises_none (exception.Existing r) = refl
 
   pub quiet_initialises_none : (act : TurnAction) → is_quiet act ≡ true → KeepsInitialisations (applied_to program start s t act)
   unfolding applied_to

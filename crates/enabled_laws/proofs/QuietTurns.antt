@@ -15,7 +15,7 @@ use Rattle.enabled_laws.specs.Kept.{Keeps, ends_thread}
 use Rattle.enabled_laws.specs.Quiet.{is_quiet_decision}
 use Rattle.jvms_machine.proofs.ListLaws.{count_by_cons, get_set_same}
 use Rattle.jvms_machine.proofs.TurnSoundness.{decided_is_ready, turn_is_told, turn_keeps}
-use Rattle.jvms_machine.specs.Actions.{affected, applied_to, begun, changed_to, thread_after_action, items_of, operands_of, with_changed, with_class_constants}
+use Rattle.jvms_machine.specs.Actions.{affected, applied_to, with_initialisation_frame, changed_to, thread_after_action, items_of, operands_of, with_changed, with_class_constants}
 use Rattle.jvms_machine.specs.Decisions.{TurnAction, TurnDecision, outcome_of, outcome_of_action}
 use Rattle.jvms_machine.specs.Events.{is_release, releases_between}
 use Rattle.jvms_machine.specs.Limits.{are_limits}
@@ -45,24 +45,24 @@ use Rattle.jvms_machine.specs.declared.state.StackFrame.TheVariants as stack_fra
 -- ---- Turns
 
 -- A thread that takes a turn exists, and hasn't ended.
-taken_lives : (program : List Class) (limits : Limits) (start : Start) (s : State) (t : ℕ) (thread : Thread) (ended : Bool) (pending : Option ℕ) (waits : Option Wait) (act : TurnAction) → started_decision program limits start s t thread (status_by ended pending waits) ≡ decision.Makes act → ended ≡ false
+taken_lives : (program : List Class) (limits : Limits) (start : Start) (s : State) (t : ℕ) (thread : Thread) (ended : Bool) (pending : Option ℕ) (waits : Option Wait) (act : TurnAction) → started_decision program limits start s t thread (status_by ended pending waits) ≡ decision.Applies act → ended ≡ false
 taken_lives program limits start s t thread true pending waits act makes = absurd (cc)
 taken_lives program limits start s t thread false pending waits act makes = refl
 
-thread_lives : (program : List Class) (limits : Limits) (start : Start) (s : State) (t : ℕ) (o : Option Thread) (act : TurnAction) → thread_decision program limits start s t o ≡ decision.Makes act → (thread : Thread) → o ≡ Some thread → thread.ended ≡ false
+thread_lives : (program : List Class) (limits : Limits) (start : Start) (s : State) (t : ℕ) (o : Option Thread) (act : TurnAction) → thread_decision program limits start s t o ≡ decision.Applies act → (thread : Thread) → o ≡ Some thread → thread.ended ≡ false
 thread_lives program limits start s t None act makes thread at = absurd (none-some thread at)
 thread_lives program limits start s t (Some other) act makes thread at =
     ap (λ (w : Thread). w.ended) (sym (same_Some other thread at)) ∙ taken_lives program limits start s t other other.ended other.pending other.waits act makes
 
-pub decided_lives : (program : List Class) (limits : Limits) (start : Start) (s : State) (t : ℕ) (act : TurnAction) → decide program limits start s t ≡ decision.Makes act → (thread : Thread) → slice_get s.threads t ≡ Some thread → thread.ended ≡ false
+pub decided_lives : (program : List Class) (limits : Limits) (start : Start) (s : State) (t : ℕ) (act : TurnAction) → decide program limits start s t ≡ decision.Applies act → (thread : Thread) → slice_get s.threads t ≡ Some thread → thread.ended ≡ false
 unfolding decide
 decided_lives program limits start s t act makes thread at = thread_lives program limits start s t (slice_get s.threads t) act makes thread at
 
-thread_makes : (program : List Class) (limits : Limits) (start : Start) (s : State) (t : ℕ) (o : Option Thread) (act : TurnAction) → thread_decision program limits start s t o ≡ decision.Makes act → (own : Thread) × (o ≡ Some own)
+thread_makes : (program : List Class) (limits : Limits) (start : Start) (s : State) (t : ℕ) (o : Option Thread) (act : TurnAction) → thread_decision program limits start s t o ≡ decision.Applies act → (own : Thread) × (o ≡ Some own)
 thread_makes program limits start s t None act makes = absurd (cc)
 thread_makes program limits start s t (Some own) act makes = (own, refl)
 
-pub decided_makes : (program : List Class) (limits : Limits) (start : Start) (s : State) (t : ℕ) (act : TurnAction) → decide program limits start s t ≡ decision.Makes act → (own : Thread) × (slice_get s.threads t ≡ Some own)
+pub decided_makes : (program : List Class) (limits : Limits) (start : Start) (s : State) (t : ℕ) (act : TurnAction) → decide program limits start s t ≡ decision.Applies act → (own : Thread) × (slice_get s.threads t ≡ Some own)
 unfolding decide
 decided_makes program limits start s t act makes = thread_makes program limits start s t (slice_get s.threads t) act makes
 
@@ -121,30 +121,30 @@ decided_outcome : (program : List Class) (limits : Limits) (start : Start) (s : 
 unfolding turn
 decided_outcome program limits start s t d is = ap (λ (e : TurnDecision). outcome_of e) is
 
-action_releases : (program : List Class) (limits : Limits) (start : Start) (s : State) (t : ℕ) (act : TurnAction) → IsKnown program limits start s → decide program limits start s t ≡ decision.Makes act → filter is_release (items_of program t act) ≡ releases_between t s (applied_to program start s t act)
+action_releases : (program : List Class) (limits : Limits) (start : Start) (s : State) (t : ℕ) (act : TurnAction) → IsKnown program limits start s → decide program limits start s t ≡ decision.Applies act → filter is_release (items_of program t act) ≡ releases_between t s (applied_to program start s t act)
 unfolding turn
 action_releases program limits start s t act known makes =
     subst (λ d. filter is_release (items_after program t d) ≡ releases_between t s (state_after program start s t d)) makes (turn_is_told program limits start s t known.classes known.within known.starts known.sound).releases
 
-pub action_known : (program : List Class) (limits : Limits) (start : Start) (s : State) (t : ℕ) (act : TurnAction) → IsKnown program limits start s → decide program limits start s t ≡ decision.Makes act → IsKnownAction program s act
+pub action_known : (program : List Class) (limits : Limits) (start : Start) (s : State) (t : ℕ) (act : TurnAction) → IsKnown program limits start s → decide program limits start s t ≡ decision.Applies act → IsKnownAction program s act
 action_known program limits start s t act known makes = subst (IsKnownDecision program s) makes (decided_known program limits start s t known.classes known.sound)
 
 -- Another thread's wait stays.
-pub action_keeps_waits : (program : List Class) (limits : Limits) (start : Start) (s : State) (t u : ℕ) (act : TurnAction) → IsKnown program limits start s → (u ≡ t → ⊥) → decide program limits start s t ≡ decision.Makes act → (r : ℕ) → waits_for r (slice_get s.threads u) ≡ true → WaitStays s (turn program limits start s t).state u r
+pub action_keeps_waits : (program : List Class) (limits : Limits) (start : Start) (s : State) (t u : ℕ) (act : TurnAction) → IsKnown program limits start s → (u ≡ t → ⊥) → decide program limits start s t ≡ decision.Applies act → (r : ℕ) → waits_for r (slice_get s.threads u) ≡ true → WaitStays s (turn program limits start s t).state u r
 action_keeps_waits program limits start s t u act known other makes r waits =
-    subst (λ (after : State). WaitStays s after u r) (sym (decided_state program limits start s t (decision.Makes act) makes))
+    subst (λ (after : State). WaitStays s after u r) (sym (decided_state program limits start s t (decision.Applies act) makes))
     (action_waits program start s t u r other known.sound.waiters waits act (action_known program limits start s t act known makes))
 
 -- A turn that isn't taken changes nothing.
-pub untaken_same : (program : List Class) (limits : Limits) (start : Start) (s : State) (t u : ℕ) (o : Outcome) → decide program limits start s t ≡ decision.Unmade o → IsAsEnabled program limits start s t u
+pub untaken_same : (program : List Class) (limits : Limits) (start : Start) (s : State) (t u : ℕ) (o : Outcome) → decide program limits start s t ≡ decision.Stays o → IsAsEnabled program limits start s t u
 untaken_same program limits start s t u o is fit =
-    let kept = decided_state program limits start s t (decision.Unmade o) is in
+    let kept = decided_state program limits start s t (decision.Stays o) is in
     (ap (λ (r : State). is_enabled (turn program limits start r u).outcome) kept, ap (λ (r : State). is_bad (turn program limits start r u).outcome) kept ∙ fit)
 
 pub quiet_by : (program : List Class) (limits : Limits) (start : Start) (s : State) (t u : ℕ) (d : TurnDecision) → IsKnown program limits start s → (u ≡ t → ⊥) → decide program limits start s t ≡ d → is_quiet_decision d ≡ true → IsAsEnabled program limits start s t u
-quiet_by program limits start s t u (decision.Unmade o) known other is quiet = untaken_same program limits start s t u o is
-quiet_by program limits start s t u (decision.Makes act) known other is quiet =
-    let made = sym (decided_state program limits start s t (decision.Makes act) is) in
+quiet_by program limits start s t u (decision.Stays o) known other is quiet = untaken_same program limits start s t u o is
+quiet_by program limits start s t u (decision.Applies act) known other is quiet =
+    let made = sym (decided_state program limits start s t (decision.Applies act) is) in
     let ready : IsReady start s t act = subst (IsReadyToMake start s t) is (decided_is_ready program limits start s t known.classes known.within known.starts known.sound) in
     let releases = action_releases program limits start s t act known is in
     let effect_is = action_known program limits start s t act known is in
@@ -186,13 +186,13 @@ begins_anew program limits start s t class own at sound sound_after same =
     let test = is_initialisation_of class in
     let made = with_class_constants s (slice_get program class) in
     let threads_are = (constants_beside s (slice_get program class)).threads in
-    let there : slice_get (changed_to made.threads t (begun class) (slice_get made.threads t)) t ≡ Some (begun class own) =
-    ap (λ (ts : List Thread). slice_get (changed_to ts t (begun class) (slice_get ts t)) t) threads_are
-    ∙ ap (λ o. slice_get (changed_to s.threads t (begun class) o) t) at ∙ get_set_same s.threads t own (begun class own) at in
+    let there : slice_get (changed_to made.threads t (with_initialisation_frame class) (slice_get made.threads t)) t ≡ Some (with_initialisation_frame class own) =
+    ap (λ (ts : List Thread). slice_get (changed_to ts t (with_initialisation_frame class) (slice_get ts t)) t) threads_are
+    ∙ ap (λ o. slice_get (changed_to s.threads t (with_initialisation_frame class) o) t) at ∙ get_set_same s.threads t own (with_initialisation_frame class own) at in
     let before : count_by test own.frames ≡ frames_in_progress t (slice_get s.initialisations class) = sym (ap (initialisation_frames class) at) ∙ sound.initialised t class in
-    let later : count_by test (begun class own).frames ≡ frames_in_progress t (slice_get s.initialisations class) =
+    let later : count_by test (with_initialisation_frame class own).frames ≡ frames_in_progress t (slice_get s.initialisations class) =
     sym (ap (initialisation_frames class) there) ∙ sound_after.initialised t class ∙ ap (λ (is : List Initialisation). frames_in_progress t (slice_get is class)) same in
-    let longer : count_by test (begun class own).frames ≡ 1 + count_by test own.frames =
+    let longer : count_by test (with_initialisation_frame class own).frames ≡ 1 + count_by test own.frames =
     count_by_cons test (stack_frame.Initialisation class false) own.frames ∙ ap (λ k. k + count_by test own.frames) (cond-true (class == class) 1 0 (eq-eqb class class refl)) in
     absurd (omega (arith, before, later, longer))
 
@@ -201,10 +201,10 @@ kept_begins_none program limits start s t own (action.Begins class) at sound sou
 kept_begins_none program limits start s t own _ at sound sound_after same = refl
 
 kept_by : (program : List Class) (limits : Limits) (start : Start) (s : State) (t u : ℕ) (d : TurnDecision) → IsKnown program limits start s → (u ≡ t → ⊥) → decide program limits start s t ≡ d → Keeps s (turn program limits start s t) → IsAsEnabled program limits start s t u
-kept_by program limits start s t u (decision.Unmade o) known other is keeps = untaken_same program limits start s t u o is
-kept_by program limits start s t u (decision.Makes act) known other is keeps =
-    let made = decided_state program limits start s t (decision.Makes act) is in
-    let goes_on : ends_thread (outcome_of_action act) ≡ false = ap ends_thread (sym (decided_outcome program limits start s t (decision.Makes act) is)) ∙ keeps.goes_on in
+kept_by program limits start s t u (decision.Stays o) known other is keeps = untaken_same program limits start s t u o is
+kept_by program limits start s t u (decision.Applies act) known other is keeps =
+    let made = decided_state program limits start s t (decision.Applies act) is in
+    let goes_on : ends_thread (outcome_of_action act) ≡ false = ap ends_thread (sym (decided_outcome program limits start s t (decision.Applies act) is)) ∙ keeps.continues in
     let starts = action_starts_none program start s t act (ap (λ (r : State). length r.threads) (sym made) ∙ keeps.threads) in
     let own = decided_makes program limits start s t act is in
     let effect_is = action_known program limits start s t act known is in

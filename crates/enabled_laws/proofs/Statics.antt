@@ -58,7 +58,7 @@ module _ (program : List Class) (start : Start) (s : State) (t : ℕ) where
 
   exception_statics : (e : Exception) → KeepsStatics (with_exception program s e)
   exception_statics (exception.New class) = fields_themselves s.statics
-  exception_statics (exception.Held r) = fields_themselves s.statics
+  exception_statics (exception.Existing r) = fields_themselves s.statics
 
   result_statics : (made : State) (result : Option Value) → KeepsStatics made → KeepsStatics (with_result made t result)
   result_statics made result keeps = cond_both (t == 0) _ _ KeepsStatics (λ _. keeps) (λ _. keeps)

@@ -8,7 +8,7 @@ use Rattle.enabled_laws.proofs.Related.{AsBefore, Asked, IsRelation, WaitsNow}
 use Rattle.enabled_laws.proofs.Turned.{Turned, beside_turned, changed_others, changed_threads, threads_started}
 use Rattle.enabled_laws.specs.Quiet.{is_quiet, is_quiet_effect, is_taking, is_taking_effect}
 use Rattle.jvms_machine.proofs.ListLaws.{appended_within}
-use Rattle.jvms_machine.specs.Actions.{affected, applied_to, begun, thread_after_action, operands_of, waited, with_changed, with_class_constants, with_initialisation, with_lock, with_retaken}
+use Rattle.jvms_machine.specs.Actions.{affected, applied_to, with_initialisation_frame, thread_after_action, operands_of, after_wait, with_changed, with_class_constants, with_initialisation, with_lock, with_retaken}
 use Rattle.jvms_machine.specs.Decisions.{TurnAction}
 use Rattle.jvms_machine.specs.Monitors.{entered_monitor}
 use Rattle.jvms_machine.specs.Start.{Start}
@@ -100,16 +100,16 @@ module _ (program : List Class) (start : Start) (s : State) (t : ℕ) (own : Thr
   effect_takes (effect.PutStatic n v) act others takes loud = absurd (true≢false loud)
   effect_takes (effect.LoadElement r i) act others takes loud = absurd (true≢false loud)
   effect_takes (effect.StoreElement r i v) act others takes loud = absurd (true≢false loud)
-  effect_takes (effect.Makes what) act others takes loud = absurd (true≢false loud)
+  effect_takes (effect.Creates what) act others takes loud = absurd (true≢false loud)
   effect_takes (effect.Prints what ends_line) act others takes loud = absurd (true≢false loud)
   effect_takes (effect.Joins u) act others takes loud = absurd (true≢false loud)
   effect_takes (effect.Notifies r all) act others takes loud = absurd (true≢false loud)
 
-  begins_takes : (class : ℕ) → Takes (with_initialisation (with_changed (with_class_constants s (slice_get program class)) t (begun class)) class (initialisation.InProgress t))
+  begins_takes : (class : ℕ) → Takes (with_initialisation (with_changed (with_class_constants s (slice_get program class)) t (with_initialisation_frame class)) class (initialisation.InProgress t))
   begins_takes class =
       let o = slice_get program class in
       let keeps = constants_keep s o in
-      let turned = beside_turned Backward backward s (with_class_constants s o) t (begun class) own at (constants_beside s o) refl (λ on. on) (λ v r _. subst (λ (ms : List (ℕ × Hold)). Backward (may_enter v (monitor_at s.monitors r)) (may_enter v (monitor_at ms r))) (sym keeps.1) (λ on. on)) keeps.0 in
+      let turned = beside_turned Backward backward s (with_class_constants s o) t (with_initialisation_frame class) own at (constants_beside s o) refl (λ on. on) (λ v r _. subst (λ (ms : List (ℕ × Hold)). Backward (may_enter v (monitor_at s.monitors r)) (may_enter v (monitor_at ms r))) (sym keeps.1) (λ on. on)) keeps.0 in
       record {
         heap = turned.heap;
         threads = turned.threads;
@@ -139,6 +139,6 @@ module _ (program : List Class) (start : Start) (s : State) (t : ℕ) (own : Thr
   action_takes (action.FailsInitialisation class e last) takes loud = absurd (false≢true takes)
   action_takes (action.Waits w) takes loud = absurd (false≢true takes)
   action_takes (action.Retakes w) takes loud =
-      beside_turned Backward backward s (with_retaken s t w) t waited own at (beside_heap s _ refl refl) refl (λ on. on) (λ v r other. retaken_backward t w s.monitors v r other) refl
+      beside_turned Backward backward s (with_retaken s t w) t after_wait own at (beside_heap s _ refl refl) refl (λ on. on) (λ v r other. retaken_backward t w s.monitors v r other) refl
   action_takes (action.Raises e) takes loud = absurd (true≢false loud)
   action_takes (action.Fails e) takes loud = absurd (false≢true takes)

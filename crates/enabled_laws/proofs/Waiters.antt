@@ -1,7 +1,7 @@
 -- An action keeps whether another thread awaits its notification, or the thread's monitor is held.
 use Rattle.enabled_laws.proofs.Kept.{WaitStays}
 use Rattle.enabled_laws.proofs.KnownEffects.{IsKnownAction, IsKnownEffect}
-use Rattle.jvms_machine.specs.Actions.{affected, applied_to, ended, thread_after_action, operands_of, put_field, put_static, with_changed, with_class_constants, with_exception, with_lock, with_result, with_unlock}
+use Rattle.jvms_machine.specs.Actions.{affected, applied_to, after_end, thread_after_action, operands_of, put_field, put_static, with_changed, with_class_constants, with_exception, with_lock, with_result, with_unlock}
 use Rattle.jvms_machine.specs.Decisions.{TurnAction}
 use Rattle.jvms_machine.specs.Start.{Start}
 use Rattle.jvms_machine.specs.State.{AreWaiters, State, Thread, is_wait_for, monitor_at, waits_for}
@@ -104,7 +104,7 @@ module _ (program : List Class) (start : Start) (s : State) (t v r : ℕ) (other
 
   exception_waiters : (e : Exception) → (with_exception program s e).waiters ≡ s.waiters
   exception_waiters (exception.New class) = refl
-  exception_waiters (exception.Held q) = refl
+  exception_waiters (exception.Existing q) = refl
 
   result_waiters : (made : State) (result : Option Value) → (with_result made t result).waiters ≡ made.waiters
   result_waiters made result = cond_both (t == 0) _ _ (λ (after : State). after.waiters ≡ made.waiters) (λ _. refl) (λ _. refl)
@@ -115,7 +115,7 @@ module _ (program : List Class) (start : Start) (s : State) (t v r : ℕ) (other
   action_waits (action.Begins class) known = inl (ap (is_waiter v) (constants_waiters (slice_get program class)))
   action_waits (action.Enters method body locked) known = inl (ap (is_waiter v) (lock_waiters locked))
   action_waits (action.Ends method result unlock) known =
-      inl (ap (is_waiter v) (result_waiters (with_changed (with_unlock s unlock) t ended) result ∙ unlock_waiters unlock))
+      inl (ap (is_waiter v) (result_waiters (with_changed (with_unlock s unlock) t after_end) result ∙ unlock_waiters unlock))
   action_waits (action.Calls method body takes locked) known = inl (ap (is_waiter v) (lock_waiters locked))
   action_waits (action.Returns method result unlock) known = inl (ap (is_waiter v) (unlock_waiters unlock))
   action_waits (action.Unwinds method last unlock) known = inl (ap (is_waiter v) (unlock_waiters unlock))

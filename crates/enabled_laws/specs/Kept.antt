@@ -11,8 +11,8 @@ ends_thread (outcome.Ended last) = last
 ends_thread _ = false
 
 -- The turn keeps the held monitors and the initialisations of classes, starts no thread, and doesn't end its own.
-pub record Keeps (s : State) (row : Transition) : Type 0 where
-  pub monitors : row.state.monitors ≡ s.monitors
-  pub initialisations : row.state.initialisations ≡ s.initialisations
-  pub threads : length row.state.threads ≡ length s.threads
-  pub goes_on : ends_thread row.outcome ≡ false
+pub record Keeps (s : State) (transition : Transition) : Type 0 where
+  pub monitors : transition.state.monitors ≡ s.monitors
+  pub initialisations : transition.state.initialisations ≡ s.initialisations
+  pub threads : length transition.state.threads ≡ length s.threads
+  pub continues : ends_thread transition.outcome ≡ false

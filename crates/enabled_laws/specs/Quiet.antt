@@ -26,7 +26,7 @@ is_quiet_effect (effect.GetStatic n) = true
 is_quiet_effect (effect.PutStatic n v) = true
 is_quiet_effect (effect.LoadElement r i) = true
 is_quiet_effect (effect.StoreElement r i v) = true
-is_quiet_effect (effect.Makes what) = true
+is_quiet_effect (effect.Creates what) = true
 is_quiet_effect (effect.Prints what ends_line) = true
 is_quiet_effect (effect.Locks monitor) = is_inner monitor
 is_quiet_effect (effect.Unlocks monitor) = is_inner monitor
@@ -67,8 +67,8 @@ is_quiet (action.Fails e) = false
 
 -- Decides whether a turn of this decision is quiet. A turn that isn't taken changes nothing.
 abbrev pub is_quiet_decision : {C : Type 0} → {T : Type 0} → Decision C T → Bool
-is_quiet_decision (decision.Unmade o) = true
-is_quiet_decision (decision.Makes act) = is_quiet act
+is_quiet_decision (decision.Stays o) = true
+is_quiet_decision (decision.Applies act) = is_quiet act
 
 -- ---- Actions that take, and actions that give
 
@@ -82,7 +82,7 @@ is_taking_effect (effect.GetStatic n) = true
 is_taking_effect (effect.PutStatic n v) = true
 is_taking_effect (effect.LoadElement r i) = true
 is_taking_effect (effect.StoreElement r i v) = true
-is_taking_effect (effect.Makes what) = true
+is_taking_effect (effect.Creates what) = true
 is_taking_effect (effect.Prints what ends_line) = true
 is_taking_effect (effect.Locks monitor) = true
 is_taking_effect (effect.Unlocks monitor) = is_inner monitor
@@ -111,8 +111,8 @@ is_taking (action.Raises e) = true
 is_taking (action.Fails e) = false
 
 abbrev pub is_taking_decision : {C : Type 0} → {T : Type 0} → Decision C T → Bool
-is_taking_decision (decision.Unmade o) = true
-is_taking_decision (decision.Makes act) = is_taking act
+is_taking_decision (decision.Stays o) = true
+is_taking_decision (decision.Applies act) = is_taking act
 
 -- Decides whether an effect enters no free monitor, begins and ends no initialisation, and starts no thread. It may
 -- free a monitor, also by a wait, or end its thread.
@@ -124,7 +124,7 @@ is_giving_effect (effect.GetStatic n) = true
 is_giving_effect (effect.PutStatic n v) = true
 is_giving_effect (effect.LoadElement r i) = true
 is_giving_effect (effect.StoreElement r i v) = true
-is_giving_effect (effect.Makes what) = true
+is_giving_effect (effect.Creates what) = true
 is_giving_effect (effect.Prints what ends_line) = true
 is_giving_effect (effect.Locks monitor) = is_inner monitor
 is_giving_effect (effect.Unlocks monitor) = true
@@ -153,5 +153,5 @@ is_giving (action.Raises e) = true
 is_giving (action.Fails e) = true
 
 abbrev pub is_giving_decision : {C : Type 0} → {T : Type 0} → Decision C T → Bool
-is_giving_decision (decision.Unmade o) = true
-is_giving_decision (decision.Makes act) = is_giving act
+is_giving_decision (decision.Stays o) = true
+is_giving_decision (decision.Applies act) = is_giving act

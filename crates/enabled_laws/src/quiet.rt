@@ -78,8 +78,8 @@ pub fn is_quiet<C, T>(decision: &Decision<C, T>) -> bool
     ensures { result ≡ is_quiet_decision decision.now }
 {
     match decision {
-        Decision::Unmade(_) => true,
-        Decision::Makes(action) => is_quiet_action(action),
+        Decision::Stays(_) => true,
+        Decision::Applies(action) => is_quiet_action(action),
     }
 }
 
@@ -118,8 +118,8 @@ pub fn is_taking<C, T>(decision: &Decision<C, T>) -> bool
     ensures { result ≡ is_taking_decision decision.now }
 {
     match decision {
-        Decision::Unmade(_) => true,
-        Decision::Makes(action) => is_taking_action(action),
+        Decision::Stays(_) => true,
+        Decision::Applies(action) => is_taking_action(action),
     }
 }
 
@@ -156,7 +156,7 @@ pub fn is_giving<C, T>(decision: &Decision<C, T>) -> bool
     ensures { result ≡ is_giving_decision decision.now }
 {
     match decision {
-        Decision::Unmade(_) => true,
-        Decision::Makes(action) => is_giving_action(action),
+        Decision::Stays(_) => true,
+        Decision::Applies(action) => is_giving_action(action),
     }
 }

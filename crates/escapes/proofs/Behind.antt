@@ -6,7 +6,7 @@ use Rattle.std.proofs.Math.Seq.{take-append_seam}
 use Rattle.std.proofs.lemmas.List.{append-nil}
 use Rattle.std.proofs.lemmas.Bool.Decides.{nat_tests}
 use Rattle.escapes.specs.Behind.{BeginsInAscii, IsAppended}
-use Rattle.escapes.specs.Escapes.{is_plain, four_digits, escaped, spelled}
+use Rattle.escapes.specs.Escapes.{is_plain, four_digits, unit_text, name_text}
 
 -- ---- Beginnings in ASCII
 
@@ -18,9 +18,9 @@ escaped_by_cases : (u : ℕ) (plain : Bool) → is_plain u ≡ plain → BeginsI
 escaped_by_cases u true is = grind (arith, nat_tests)
 escaped_by_cases u false is = omega arith
 
-pub spelled_ascii : (us : List ℕ) → BeginsInAscii (spelled us)
+pub spelled_ascii : (us : List ℕ) → BeginsInAscii (name_text us)
 spelled_ascii [] = tt
-spelled_ascii (u ∷ us) = ascii_append (escaped u) (spelled us) (escaped_by_cases u (is_plain u) refl) (spelled_ascii us)
+spelled_ascii (u ∷ us) = ascii_append (unit_text u) (name_text us) (escaped_by_cases u (is_plain u) refl) (spelled_ascii us)
 
 -- ---- One text after another
 
@@ -38,8 +38,8 @@ pub still_behind : (before now later : List ℕ) → IsAppended before now → l
 still_behind before now later is same = record { put = is.put; ascii = is.ascii; split = same ∙ is.split }
 
 -- A name, followed by a dot.
-pub name_appended : (before now later name : List ℕ) → IsAppended before now → later ≡ now ++ spelled name → IsAppended before later
-name_appended before now later name is e = more_behind before now later (spelled name) is (spelled_ascii name) e
+pub name_appended : (before now later name : List ℕ) → IsAppended before now → later ≡ now ++ name_text name → IsAppended before later
+name_appended before now later name is e = more_behind before now later (name_text name) is (spelled_ascii name) e
 
 pub dot_behind : (before now later : List ℕ) → IsAppended before now → later ≡ now ++ 46 ∷ [] → IsAppended before later
 dot_behind before now later is e = more_behind before now later (46 ∷ []) is (omega arith) e

@@ -5,7 +5,7 @@ use Rattle.std.proofs.lemmas.List.Sums.{sum_by-cons, sum_by-append}
 use Rattle.escapes.specs.declared.sort.NameSort.{NameSort}
 use Rattle.escapes.specs.declared.sort.NameSort.TheVariants as sort
 use Rattle.escapes.specs.Cuts.{has, dots_in}
-use Rattle.escapes.specs.Escapes.{spelled}
+use Rattle.escapes.specs.Escapes.{name_text}
 use Rattle.escapes.specs.Keys.{IsNameOf, IsMember, member_text}
 use Rattle.escapes.proofs.Members.{no_dot, spelled_no_dot}
 
@@ -31,12 +31,12 @@ pub behind_dot : (xs : List ℕ) (n : ℕ) → dots_in xs ≡ n → dots_in (46 
 behind_dot xs n e = behind_one 46 xs ∙ ap (λ (k : ℕ). 1 + k) e
 
 -- A name as it is written has no dot.
-pub name_dots : (s : NameSort) (us : List ℕ) → IsNameOf s us → dots_in (spelled us) ≡ 0
-name_dots s us is = none_counted (spelled us) (spelled_no_dot us (no_dot s us is))
+pub name_dots : (s : NameSort) (us : List ℕ) → IsNameOf s us → dots_in (name_text us) ≡ 0
+name_dots s us is = none_counted (name_text us) (spelled_no_dot us (no_dot s us is))
 
 -- A member has two dots.
 pub member_dots : (n d : NameSort) (class name descriptor : List ℕ) → IsMember n d class name descriptor → dots_in (member_text class name descriptor) ≡ 2
 member_dots n d class name descriptor is =
-    joined_count (spelled class ++ 46 ∷ spelled name) (46 ∷ spelled descriptor) 1 1
-    (joined_count (spelled class) (46 ∷ spelled name) 0 1 (name_dots sort.Class class is.class) (behind_dot (spelled name) 0 (name_dots n name is.name)))
-    (behind_dot (spelled descriptor) 0 (name_dots d descriptor is.descriptor))
+    joined_count (name_text class ++ 46 ∷ name_text name) (46 ∷ name_text descriptor) 1 1
+    (joined_count (name_text class) (46 ∷ name_text name) 0 1 (name_dots sort.Class class is.class) (behind_dot (name_text name) 0 (name_dots n name is.name)))
+    (behind_dot (name_text descriptor) 0 (name_dots d descriptor is.descriptor))

@@ -19,7 +19,7 @@ use Rattle.jvms_file.specs.Descriptors.{letter_of, element_text, field_text as t
 use Rattle.jvms_file.proofs.DescriptorLaws.{field_is_spelled, method_is_spelled}
 use Rattle.escapes.specs.declared.sort.NameSort.{NameSort}
 use Rattle.escapes.specs.declared.sort.NameSort.TheVariants as sort
-use Rattle.escapes.specs.Escapes.{is_plain, hexadecimal, four_digits, escaped, spelled}
+use Rattle.escapes.specs.Escapes.{is_plain, hexadecimal, four_digits, unit_text, name_text}
 use Rattle.escapes.specs.Cuts.{has, IsCutTwice}
 use Rattle.escapes.specs.Keys.{IsNameOf, IsMember, member_text}
 use Rattle.escapes.proofs.Cutting.{one_cut}
@@ -162,22 +162,22 @@ clear_by_cases b u false low is isnt =
     rw (ne_eqb 92 b (λ same. omega arith), ne_eqb 117 b (λ same. omega arith), digit_is_high b (u / 4096) low, digit_is_high b (u / 256 % 16) low, digit_is_high b (u / 16 % 16) low, digit_is_high b (u % 16) low) refl
 
 -- A written unit has no byte below the digits, except the unit itself.
-clear_unit : (b u : ℕ) → b < 48 → (is_plain u ≡ true → u ≡ b → ⊥) → has b (escaped u) ≡ false
+clear_unit : (b u : ℕ) → b < 48 → (is_plain u ≡ true → u ≡ b → ⊥) → has b (unit_text u) ≡ false
 clear_unit b u low isnt = clear_by_cases b u (is_plain u) low refl isnt
 
-pub spelled_no_dot : (us : List ℕ) → has 46 us ≡ false → has 46 (spelled us) ≡ false
+pub spelled_no_dot : (us : List ℕ) → has 46 us ≡ false → has 46 (name_text us) ≡ false
 spelled_no_dot [] none = refl
 spelled_no_dot (u ∷ us) none =
     let both = or_parts (u == 46) (has 46 us) none in
-    has_append 46 (escaped u) (spelled us) (clear_unit 46 u (omega arith) (λ plain. eqb-false u 46 both.0)) (spelled_no_dot us both.1)
+    has_append 46 (unit_text u) (name_text us) (clear_unit 46 u (omega arith) (λ plain. eqb-false u 46 both.0)) (spelled_no_dot us both.1)
 
 low_is_not_plain : (b u : ℕ) → b < 33 → is_plain u ≡ true → u ≡ b → ⊥
 low_is_not_plain b u low plain same = grind (arith, nat_tests)
 
 -- A written name has no space and no line end.
-pub spelled_no_low : (b : ℕ) (us : List ℕ) → b < 33 → has b (spelled us) ≡ false
+pub spelled_no_low : (b : ℕ) (us : List ℕ) → b < 33 → has b (name_text us) ≡ false
 spelled_no_low b [] low = refl
-spelled_no_low b (u ∷ us) low = has_append b (escaped u) (spelled us) (clear_unit b u (omega arith) (low_is_not_plain b u low)) (spelled_no_low b us low)
+spelled_no_low b (u ∷ us) low = has_append b (unit_text u) (name_text us) (clear_unit b u (omega arith) (low_is_not_plain b u low)) (spelled_no_low b us low)
 
 -- ---- Members
 
@@ -188,9 +188,9 @@ pub record AreParts (b : ℕ) (text first second third : List ℕ) : Type 0 wher
   pub second_clear : has b second ≡ false
 
 -- A member's text is split at its first two dots.
-pub member_parts : (n d : NameSort) (class name descriptor : List ℕ) → IsMember n d class name descriptor → AreParts 46 (member_text class name descriptor) (spelled class) (spelled name) (spelled descriptor)
+pub member_parts : (n d : NameSort) (class name descriptor : List ℕ) → IsMember n d class name descriptor → AreParts 46 (member_text class name descriptor) (name_text class) (name_text name) (name_text descriptor)
 member_parts n d class name descriptor is = record {
-  split = append_assoc (spelled class) (46 ∷ spelled name) (46 ∷ spelled descriptor);
+  split = append_assoc (name_text class) (46 ∷ name_text name) (46 ∷ name_text descriptor);
   first_clear = spelled_no_dot class (no_dot sort.Class class is.class);
   second_clear = spelled_no_dot name (no_dot n name is.name);
 }
@@ -210,21 +210,21 @@ pub parts_along : (b : ℕ) (text text' first second third : List ℕ) → text 
 parts_along b text text' first second third same parts = record { split = same ∙ parts.split; first_clear = parts.first_clear; second_clear = parts.second_clear }
 
 -- The parts of a member's text are its names as they are written.
-pub are_member : (n d : NameSort) (text first second third class name descriptor : List ℕ) → AreParts 46 text first second third → IsMember n d class name descriptor → text ≡ member_text class name descriptor → SameParts first second third (spelled class) (spelled name) (spelled descriptor)
+pub are_member : (n d : NameSort) (text first second third class name descriptor : List ℕ) → AreParts 46 text first second third → IsMember n d class name descriptor → text ≡ member_text class name descriptor → SameParts first second third (name_text class) (name_text name) (name_text descriptor)
 are_member n d text first second third class name descriptor parts is e =
-    one_cutting 46 text first second third (spelled class) (spelled name) (spelled descriptor) parts
-    (parts_along 46 text (member_text class name descriptor) (spelled class) (spelled name) (spelled descriptor) e (member_parts n d class name descriptor is))
+    one_cutting 46 text first second third (name_text class) (name_text name) (name_text descriptor) parts
+    (parts_along 46 text (member_text class name descriptor) (name_text class) (name_text name) (name_text descriptor) e (member_parts n d class name descriptor is))
 
 -- A text without two dots is no member's.
 pub no_parts : (n d : NameSort) (text class name descriptor : List ℕ) → IsCutTwice 46 text None → IsMember n d class name descriptor → text ≢ member_text class name descriptor
 no_parts n d text class name descriptor none is e =
     let parts = member_parts n d class name descriptor is in
-    none (spelled class) (spelled name) (spelled descriptor) parts.first_clear parts.second_clear (e ∙ parts.split)
+    none (name_text class) (name_text name) (name_text descriptor) parts.first_clear parts.second_clear (e ∙ parts.split)
 
 -- Equal texts are those of equal members.
 pub one_member : (n d : NameSort) (class name descriptor c m t : List ℕ) → IsMember n d class name descriptor → IsMember n d c m t → member_text class name descriptor ≡ member_text c m t → SameParts class name descriptor c m t
 one_member n d class name descriptor c m t left right e =
-    let same = are_member n d (member_text class name descriptor) (spelled class) (spelled name) (spelled descriptor) c m t (member_parts n d class name descriptor left) right e in
+    let same = are_member n d (member_text class name descriptor) (name_text class) (name_text name) (name_text descriptor) c m t (member_parts n d class name descriptor left) right e in
     record {
       same_first = one_name class c left.class.units right.class.units same.same_first;
       same_second = one_name name m left.name.units right.name.units same.same_second;
@@ -236,23 +236,23 @@ one_member n d class name descriptor c m t left right e =
 abbrev pub Text : Type 0
 Text = List ℕ
 
-pub no_class : (n d : NameSort) (text first second third : Text) → AreParts 46 text first second third → ((us : Text) → IsNameOf sort.Class us → first ≢ spelled us)
+pub no_class : (n d : NameSort) (text first second third : Text) → AreParts 46 text first second third → ((us : Text) → IsNameOf sort.Class us → first ≢ name_text us)
     → (c m t : Text) → IsMember n d c m t → text ≢ member_text c m t
 no_class n d text first second third parts none c m t is e =
     none c is.class (are_member n d text first second third c m t parts is e).same_first
 
-pub no_member_name : (n d : NameSort) (text first second third : Text) → AreParts 46 text first second third → ((us : Text) → IsNameOf n us → second ≢ spelled us)
+pub no_member_name : (n d : NameSort) (text first second third : Text) → AreParts 46 text first second third → ((us : Text) → IsNameOf n us → second ≢ name_text us)
     → (c m t : Text) → IsMember n d c m t → text ≢ member_text c m t
 no_member_name n d text first second third parts none c m t is e =
     none m is.name (are_member n d text first second third c m t parts is e).same_second
 
-pub no_descriptor : (n d : NameSort) (text first second third : Text) → AreParts 46 text first second third → ((us : Text) → IsNameOf d us → third ≢ spelled us)
+pub no_descriptor : (n d : NameSort) (text first second third : Text) → AreParts 46 text first second third → ((us : Text) → IsNameOf d us → third ≢ name_text us)
     → (c m t : Text) → IsMember n d c m t → text ≢ member_text c m t
 no_descriptor n d text first second third parts none c m t is e =
     none t is.descriptor (are_member n d text first second third c m t parts is e).same_third
 
 -- A text whose parts are the names of a member is that member's.
-pub is_written : (text first second third c m t : Text) → AreParts 46 text first second third → first ≡ spelled c → second ≡ spelled m → third ≡ spelled t → text ≡ member_text c m t
+pub is_written : (text first second third c m t : Text) → AreParts 46 text first second third → first ≡ name_text c → second ≡ name_text m → third ≡ name_text t → text ≡ member_text c m t
 is_written text first second third c m t parts one two three =
-    parts.split ∙ ap (λ (x : Text). x ++ 46 ∷ (second ++ 46 ∷ third)) one ∙ ap (λ (x : Text). spelled c ++ 46 ∷ (x ++ 46 ∷ third)) two
-    ∙ ap (λ (x : Text). spelled c ++ 46 ∷ (spelled m ++ 46 ∷ x)) three ∙ sym (append_assoc (spelled c) (46 ∷ spelled m) (46 ∷ spelled t))
+    parts.split ∙ ap (λ (x : Text). x ++ 46 ∷ (second ++ 46 ∷ third)) one ∙ ap (λ (x : Text). name_text c ++ 46 ∷ (x ++ 46 ∷ third)) two
+    ∙ ap (λ (x : Text). name_text c ++ 46 ∷ (name_text m ++ 46 ∷ x)) three ∙ sym (append_assoc (name_text c) (46 ∷ name_text m) (46 ∷ name_text t))

@@ -4,7 +4,7 @@ use Rattle.std.proofs.Math.Nat.{mod-lt}
 use Rattle.std.proofs.lemmas.Bool.{true≢false}
 use Rattle.std.proofs.lemmas.Bool.Decides.{nat_tests}
 use Rattle.jvms_file.specs.Texts.{IsText}
-use Rattle.escapes.specs.Escapes.{is_plain, hexadecimal, four_digits, escaped, spelled}
+use Rattle.escapes.specs.Escapes.{is_plain, hexadecimal, four_digits, unit_text, name_text}
 use Rattle.escapes.specs.Readings.{IsUnit}
 
 -- ---- One unit
@@ -48,7 +48,7 @@ unit_by_cases u v false true us vs small few left right e = absurd (plain_no_bac
 unit_by_cases u v false false us vs small few left right e = same_digits u v us vs small few e
 
 -- Texts that begin with units as they are written begin with the same unit.
-pub one_unit : (u v : ℕ) (us vs : List ℕ) → IsUnit u → IsUnit v → escaped u ++ us ≡ escaped v ++ vs → (u ≡ v) × (us ≡ vs)
+pub one_unit : (u v : ℕ) (us vs : List ℕ) → IsUnit u → IsUnit v → unit_text u ++ us ≡ unit_text v ++ vs → (u ≡ v) × (us ≡ vs)
 one_unit u v us vs small few e = unit_by_cases u v (is_plain u) (is_plain v) us vs small few refl refl e
 
 some_by_cases : (u : ℕ) (p : Bool) (us : List ℕ) → cond p (u ∷ []) (92 ∷ 117 ∷ four_digits u) ++ us ≡ [] → ⊥
@@ -56,7 +56,7 @@ some_by_cases u true us e = cc
 some_by_cases u false us e = cc
 
 -- A written unit has at least one byte.
-pub unit_is_some : (u : ℕ) (us : List ℕ) → escaped u ++ us ≡ [] → ⊥
+pub unit_is_some : (u : ℕ) (us : List ℕ) → unit_text u ++ us ≡ [] → ⊥
 unit_is_some u us e = some_by_cases u (is_plain u) us e
 
 -- ---- Units, one after another
@@ -65,34 +65,34 @@ unit_is_some u us e = some_by_cases u (is_plain u) us e
 pub record IsLeft (rest : List ℕ) : Type 0 where
   pub units : List ℕ
   pub are : IsText units
-  pub text : rest ≡ spelled units
+  pub text : rest ≡ name_text units
 
-pub units_left : (us vs rest : List ℕ) → IsText us → IsText vs → spelled us ++ rest ≡ spelled vs → IsLeft rest
+pub units_left : (us vs rest : List ℕ) → IsText us → IsText vs → name_text us ++ rest ≡ name_text vs → IsLeft rest
 units_left [] vs rest small few e = record { units = vs; are = few; text = e }
-units_left (u ∷ us) [] rest small few e = absurd (unit_is_some u (spelled us ++ rest) (sym (append_assoc (escaped u) (spelled us) rest) ∙ e))
+units_left (u ∷ us) [] rest small few e = absurd (unit_is_some u (name_text us ++ rest) (sym (append_assoc (unit_text u) (name_text us) rest) ∙ e))
 units_left (u ∷ us) (v ∷ vs) rest small few e =
-    let parts = one_unit u v (spelled us ++ rest) (spelled vs) small.0 few.0 (sym (append_assoc (escaped u) (spelled us) rest) ∙ e) in
+    let parts = one_unit u v (name_text us ++ rest) (name_text vs) small.0 few.0 (sym (append_assoc (unit_text u) (name_text us) rest) ∙ e) in
     units_left us vs rest small.1 few.1 parts.1
 
 -- A rest that begins with no unit isn't one of a name.
-nothing_left : (rest : List ℕ) (units : List ℕ) → IsText units → rest ≡ spelled units → (rest ≡ [] → ⊥)
-    → ((u : ℕ) (behind : List ℕ) → IsUnit u → rest ≢ escaped u ++ behind) → ⊥
+nothing_left : (rest : List ℕ) (units : List ℕ) → IsText units → rest ≡ name_text units → (rest ≡ [] → ⊥)
+    → ((u : ℕ) (behind : List ℕ) → IsUnit u → rest ≢ unit_text u ++ behind) → ⊥
 nothing_left rest [] are e some none = some e
-nothing_left rest (u ∷ us) are e some none = none u (spelled us) are.0 e
+nothing_left rest (u ∷ us) are e some none = none u (name_text us) are.0 e
 
-pub no_name : (text us rest : List ℕ) → IsText us → text ≡ spelled us ++ rest → (rest ≡ [] → ⊥)
-    → ((u : ℕ) (behind : List ℕ) → IsUnit u → rest ≢ escaped u ++ behind) → (vs : List ℕ) → IsText vs → text ≢ spelled vs
+pub no_name : (text us rest : List ℕ) → IsText us → text ≡ name_text us ++ rest → (rest ≡ [] → ⊥)
+    → ((u : ℕ) (behind : List ℕ) → IsUnit u → rest ≢ unit_text u ++ behind) → (vs : List ℕ) → IsText vs → text ≢ name_text vs
 no_name text us rest small split some none vs few e =
     let left = units_left us vs rest small few (sym split ∙ e) in
     nothing_left rest left.units left.are left.text some none
 
 -- Equal spellings are those of equal names.
-pub one_name : (us vs : List ℕ) → IsText us → IsText vs → spelled us ≡ spelled vs → us ≡ vs
+pub one_name : (us vs : List ℕ) → IsText us → IsText vs → name_text us ≡ name_text vs → us ≡ vs
 one_name [] [] small few e = refl
-one_name [] (v ∷ vs) small few e = absurd (unit_is_some v (spelled vs) (sym e))
-one_name (u ∷ us) [] small few e = absurd (unit_is_some u (spelled us) e)
+one_name [] (v ∷ vs) small few e = absurd (unit_is_some v (name_text vs) (sym e))
+one_name (u ∷ us) [] small few e = absurd (unit_is_some u (name_text us) e)
 one_name (u ∷ us) (v ∷ vs) small few e =
-    let parts = one_unit u v (spelled us) (spelled vs) small.0 few.0 e in
+    let parts = one_unit u v (name_text us) (name_text vs) small.0 few.0 e in
     let rest = one_name us vs small.1 few.1 parts.1 in
     let first = parts.0 in
     cc

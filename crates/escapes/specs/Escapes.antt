@@ -15,9 +15,9 @@ abbrev pub four_digits : ℕ → List ℕ
 four_digits u = hexadecimal (u / 4096) ∷ hexadecimal (u / 256 % 16) ∷ hexadecimal (u / 16 % 16) ∷ hexadecimal (u % 16) ∷ []
 
 -- Returns a unit as it is written: itself, or \u and its four digits.
-abbrev pub escaped : ℕ → List ℕ
-escaped u = if is_plain u then u ∷ [] else 92 ∷ 117 ∷ four_digits u
+abbrev pub unit_text : ℕ → List ℕ
+unit_text u = if is_plain u then u ∷ [] else 92 ∷ 117 ∷ four_digits u
 
 -- Returns a name as it is written, one unit after another.
-abbrev pub spelled : List ℕ → List ℕ
-spelled us = flat_map escaped us
+abbrev pub name_text : List ℕ → List ℕ
+name_text us = flat_map unit_text us

@@ -7,7 +7,7 @@ use Rattle.jvms_program.specs.declared.key.FieldKey.{FieldKey}
 use Rattle.jvms_program.specs.declared.key.MethodKey.{MethodKey}
 use Rattle.escapes.specs.declared.sort.NameSort.{NameSort}
 use Rattle.escapes.specs.declared.sort.NameSort.TheVariants as sort
-use Rattle.escapes.specs.Escapes.{spelled}
+use Rattle.escapes.specs.Escapes.{name_text}
 
 -- Decides whether a text is a name of this sort (JVMS 4.2), or a descriptor (JVMS 4.3).
 abbrev pub is_of : NameSort → List ℕ → Bool
@@ -36,7 +36,7 @@ IsMethodKey m = IsMember sort.Method sort.MethodDescriptor m.class m.name m.desc
 
 -- Returns a member as it is written: its class, its name and its descriptor, separated by dots.
 abbrev pub member_text : List ℕ → List ℕ → List ℕ → List ℕ
-member_text class name descriptor = spelled class ++ 46 ∷ spelled name ++ 46 ∷ spelled descriptor
+member_text class name descriptor = name_text class ++ 46 ∷ name_text name ++ 46 ∷ name_text descriptor
 
 -- Returns a field as it is written: `C.x.D`.
 abbrev pub field_text : FieldKey → List ℕ

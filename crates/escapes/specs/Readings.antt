@@ -1,6 +1,6 @@
 -- The results of parsing a text (own).
 use Rattle.std.specs.Prelude.{◌≡◌, ◌≢◌, ℕ, ◌<◌, List, ◌++◌, Option, Some, None}
-use Rattle.escapes.specs.Escapes.{escaped}
+use Rattle.escapes.specs.Escapes.{unit_text}
 
 -- The text is that of the result, which has the wanted form. If there is no result, the text is that of nothing of this
 -- form.
@@ -14,5 +14,5 @@ IsUnit u = u < 0x10000
 
 -- The text begins with a written unit, or with none.
 abbrev pub IsUnitAt : List ℕ → Option (ℕ × List ℕ) → Type 0
-IsUnitAt text (Some x) = IsUnit x.0 × (text ≡ escaped x.0 ++ x.1)
-IsUnitAt text None = (u : ℕ) (behind : List ℕ) → IsUnit u → text ≢ escaped u ++ behind
+IsUnitAt text (Some x) = IsUnit x.0 × (text ≡ unit_text x.0 ++ x.1)
+IsUnitAt text None = (u : ℕ) (behind : List ℕ) → IsUnit u → text ≢ unit_text u ++ behind

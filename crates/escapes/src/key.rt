@@ -24,7 +24,7 @@ fn put_parts(
 ) -> Result<(), AllocError>
     ensures exact { OnOk result (string_bytes out.new
         ≡ string_bytes out.old ++ member_text class.now name.now descriptor.now) }
-    ensures behind { OnErr result (IsAppended (string_bytes out.old) (string_bytes out.new)) }
+    ensures appended { OnErr result (IsAppended (string_bytes out.old) (string_bytes out.new)) }
 {
     put_name(out, class)?;
     out.push_str(".")?;

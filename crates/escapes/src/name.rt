@@ -4,7 +4,7 @@ ghost use Rattle.std.specs.Prelude.{◌≡◌, ◌++◌, OnOk, OnErr, IfOk};
 ghost use Rattle.std.specs.Option.{option_map};
 ghost use Rattle.std.specs.String.{string_bytes};
 ghost use Rattle.jvms_file.specs.Texts.{IsText};
-ghost use Rattle.escapes.specs.Escapes.{spelled};
+ghost use Rattle.escapes.specs.Escapes.{name_text};
 ghost use Rattle.escapes.specs.Keys.{IsNameOf};
 ghost use Rattle.escapes.specs.Readings.{IsReadAs};
 
@@ -17,7 +17,8 @@ use std::alloc::{AllocError, Global};
 /// Appends a name. A UTF-16 code unit from 33 to 126 except the backslash is written as itself. Each other one is `\u`
 /// with four hexadecimal digits in lower case.
 pub fn put_name(out: &mut String, name: &[u16]) -> Result<(), AllocError>
-    ensures exact { OnOk result (string_bytes out.new ≡ string_bytes out.old ++ spelled name.now) }
+    ensures exact { OnOk result
+        (string_bytes out.new ≡ string_bytes out.old ++ name_text name.now) }
     // Without memory nothing changes.
     ensures kept { OnErr result (string_bytes out.new ≡ string_bytes out.old) }
 {
@@ -34,7 +35,7 @@ pub fn put_name(out: &mut String, name: &[u16]) -> Result<(), AllocError>
 /// Parses a text as code units. Returns `None` if it isn't how units are written.
 fn units_of(alloc: Global, text: &[u8]) -> Result<Option<Vec<u16>>, AllocError>
     ensures { IfOk result
-        (λ units. IsReadAs IsText spelled text.now (option_map (λ v. v.items) units)) }
+        (λ units. IsReadAs IsText name_text text.now (option_map (λ v. v.items) units)) }
 {
     let mut units = Vec::with_capacity(alloc, text.len())?;
     let mut rest = text;
@@ -54,7 +55,7 @@ pub fn name_units(
     sort: NameSort,
     text: &[u8],
 ) -> Result<Option<Items<u16>>, AllocError>
-    ensures { IfOk result (IsReadAs (IsNameOf sort) spelled text.now) }
+    ensures { IfOk result (IsReadAs (IsNameOf sort) name_text text.now) }
 {
     let Some(units) = units_of(alloc, text)? else {
         return Ok(None);
@@ -67,7 +68,7 @@ pub fn name_units(
 
 /// Parses a name. Returns `None` if the text is no name of this sort.
 pub fn name_of(alloc: Global, sort: NameSort, text: &[u8]) -> Result<Option<Text>, AllocError>
-    ensures { IfOk result (IsReadAs (IsNameOf sort) spelled text.now) }
+    ensures { IfOk result (IsReadAs (IsNameOf sort) name_text text.now) }
 {
     let Some(units) = name_units(alloc, sort, text)? else {
         return Ok(None);

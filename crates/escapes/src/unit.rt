@@ -4,7 +4,7 @@ ghost use Rattle.std.specs.Prelude.{◌≡◌, ◌≢◌, ℕ, ◌<◌, ◌++◌
 ghost use Rattle.std.specs.List.{AllByRecursion};
 ghost use Rattle.std.specs.Option.{option_map};
 ghost use Rattle.std.specs.String.{string_bytes};
-ghost use Rattle.escapes.specs.Escapes.{is_plain, hexadecimal, four_digits, escaped};
+ghost use Rattle.escapes.specs.Escapes.{is_plain, hexadecimal, four_digits, unit_text};
 ghost use Rattle.escapes.specs.Readings.{IsReadAs, IsUnit, IsUnitAt};
 
 use std::alloc::AllocError;
@@ -58,7 +58,7 @@ fn put_all(out: &mut String, bytes: &[u8]) -> Result<(), AllocError>
 
 /// Appends a unit: itself, or `\u` with its four digits.
 pub(crate) fn put_unit(out: &mut String, unit: u16) -> Result<(), AllocError>
-    ensures exact { OnOk result (string_bytes out.new ≡ string_bytes out.old ++ escaped unit) }
+    ensures exact { OnOk result (string_bytes out.new ≡ string_bytes out.old ++ unit_text unit) }
     ensures kept { OnErr result (string_bytes out.new ≡ string_bytes out.old) }
 {
     if is_plain(unit) {

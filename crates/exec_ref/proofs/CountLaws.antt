@@ -92,9 +92,9 @@ one_at_least (v ∷ lengths) x is some =
 
 -- ---- The decision on the room
 
-pub room_told : (limits : Limits) (s : State) (thread : Thread) (class : List ℕ) (dimensions : ℕ) (lengths : List ℕ) (b : Bool) → has_dimensions class dimensions ≡ true → b ≡ has_room_for_elements (arrays_made lengths) (elements_made lengths) limits s
+pub room_of_count : (limits : Limits) (s : State) (thread : Thread) (class : List ℕ) (dimensions : ℕ) (lengths : List ℕ) (b : Bool) → has_dimensions class dimensions ≡ true → b ≡ has_room_for_elements (arrays_made lengths) (elements_made lengths) limits s
     → new_arrays_room limits s thread class dimensions lengths ≡ (if not b then throws limits s thread thrown.OutOfMemoryError else making s dimensions (new_object.Arrays class dimensions))
-room_told limits s thread class dimensions lengths b has is =
+room_of_count limits s thread class dimensions lengths b has is =
     ap (λ r. if not r then never_seen else (if not (has_room_for_elements (arrays_made lengths) (elements_made lengths) limits s) then throws limits s thread thrown.OutOfMemoryError else making s dimensions (new_object.Arrays class dimensions))) has
     ∙ ap (λ r. if not r then throws limits s thread thrown.OutOfMemoryError else making s dimensions (new_object.Arrays class dimensions)) (sym is)
 

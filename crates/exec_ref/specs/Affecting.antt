@@ -7,14 +7,14 @@ use Rattle.jvms_machine.specs.State.{State}
 
 -- An effect creates no object, starts no thread and prints no byte.
 abbrev pub AffectsNone : State → Effect (List ℕ) → Type 0
-AffectsNone s (effect.Makes what) = ⊥
+AffectsNone s (effect.Creates what) = ⊥
 AffectsNone s (effect.Prints what ends_line) = line_bytes s.heap what ends_line ≡ []
 AffectsNone s (effect.Starts r u) = ⊥
 AffectsNone s _ = Unit {0}
 
 -- An effect stores a value in a field or an element, or only gives an item.
 abbrev pub PutsAtMost : Effect (List ℕ) → Type 0
-PutsAtMost (effect.Makes what) = ⊥
+PutsAtMost (effect.Creates what) = ⊥
 PutsAtMost (effect.Prints what ends_line) = ⊥
 PutsAtMost (effect.Locks monitor) = ⊥
 PutsAtMost (effect.Unlocks monitor) = ⊥

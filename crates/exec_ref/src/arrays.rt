@@ -3,8 +3,8 @@
 ghost use Rattle.std.specs.Prelude.{◌≡◌, ◌+◌, ◌<◌, ◌^◌, IsTrue, length};
 ghost use Rattle.jvms_machine.specs.Arrays.{if_deep, making, length_decision, new_array_decision, new_class_array_decision, array_length_decision, array_decision};
 ghost use Rattle.jvms_machine.specs.Heap.{has_room_for_elements};
-ghost use Rattle.exec_ref.specs.Asked.{told_length};
-ghost use Rattle.machine_parts.specs.Decided.{seen, object_value, text_of};
+ghost use Rattle.exec_ref.specs.Asked.{reference_length_decision};
+ghost use Rattle.machine_parts.specs.Decided.{decision_value, object_value, text_of};
 
 mod components;
 pub(crate) mod elements;
@@ -29,8 +29,8 @@ pub(crate) fn has_room_for_elements(parts: &Parts, objects: usize, elements: usi
     ensures number { IsTrue result → length parts.now.state.heap + objects < 2 ^ 32 }
 {
     let most = parts.limits.elements as usize;
-    let held = parts.heap.elements() as usize;
-    parts.has_room_for(objects) && held <= most && elements <= most - held
+    let count = parts.heap.elements() as usize;
+    parts.has_room_for(objects) && count <= most && elements <= most - count
 }
 
 /// Returns the decision to create an object that replaces the topmost `takes` operands.
@@ -40,10 +40,10 @@ pub(crate) fn making<'p>(
     what: NewObject<ActionText<'p>>,
 ) -> Decided<'p>
     requires { length parts.now.state.heap + 1 < 2 ^ 32 }
-    ensures { seen result ≡ making parts.now.state takes (object_value what.entry) }
+    ensures { decision_value result ≡ making parts.now.state takes (object_value what.entry) }
 {
     let value = Value::Reference(parts.heap.count() as u32 + 1);
-    reaches(Effect::Makes(what), FrameAction::Push { takes, value })
+    reaches(Effect::Creates(what), FrameAction::Push { takes, value })
 }
 
 /// Decides the creation of an array with a length. It tests that the length isn't negative, then that there is room for
@@ -54,7 +54,7 @@ fn length_decision<'p>(
     class: ActionText<'p>,
     n: i32,
 ) -> Decided<'p>
-    ensures { seen result
+    ensures { decision_value result
         ≡ length_decision parts.now.limits parts.now.state thread.now (text_of class.entry) n }
 {
     if n < 0 {
@@ -74,7 +74,7 @@ fn new_array_decision<'p>(
     frame: &Frame,
     t: ArrayType,
 ) -> Decided<'p>
-    ensures { seen result
+    ensures { decision_value result
         ≡ new_array_decision parts.now.limits parts.now.state thread.now frame.now t }
 {
     if !has_depth(frame, 1, 1) {
@@ -93,7 +93,7 @@ pub(crate) fn new_class_array_decision<'p>(
     frame: &Frame,
     name: &'p Text,
 ) -> Decided<'p>
-    ensures { seen result ≡ new_class_array_decision parts.now.program
+    ensures { decision_value result ≡ new_class_array_decision parts.now.program
         parts.now.limits parts.now.state thread.now frame.now name.now }
 {
     if !has_depth(frame, 1, 1) {
@@ -110,8 +110,9 @@ pub(crate) fn new_class_array_decision<'p>(
 
 /// Decides to replace the array of this reference by its length.
 #[inline(always)]
-fn measured<'p>(parts: &Parts<'p>, thread: &Thread, reference: u32) -> Decided<'p>
-    ensures { seen result ≡ told_length parts.now.limits parts.now.state thread.now reference }
+fn reference_length_decision<'p>(parts: &Parts<'p>, thread: &Thread, reference: u32) -> Decided<'p>
+    ensures { decision_value result
+        ≡ reference_length_decision parts.now.limits parts.now.state thread.now reference }
 {
     if parts.heap.class_of(reference).is_none() {
         return never_seen();
@@ -128,14 +129,14 @@ fn measured<'p>(parts: &Parts<'p>, thread: &Thread, reference: u32) -> Decided<'
 /// Decides JVMS 6.5 `arraylength`.
 #[inline(always)]
 fn array_length_decision<'p>(parts: &Parts<'p>, thread: &Thread, frame: &Frame) -> Decided<'p>
-    ensures { seen result ≡ if_deep frame.now 1 1 (array_length_decision parts.now.limits
+    ensures { decision_value result ≡ if_deep frame.now 1 1 (array_length_decision parts.now.limits
         parts.now.state thread.now frame.now.activation.operands) }
 {
     if !has_depth(frame, 1, 1) {
         return bad(BadCause::Depth);
     }
     match frame.top() {
-        Value::Reference(reference) => measured(parts, thread, reference),
+        Value::Reference(reference) => reference_length_decision(parts, thread, reference),
         Value::Null => parts.throws(thread, Thrown::NullPointerException),
         Value::Int(_) | Value::Long(_) | Value::Second | Value::ReturnAddress(_) | Value::Unset =>
             bad(BadCause::Kind),
@@ -152,7 +153,7 @@ pub fn array_decision<'p>(
     what: ArrayInsn,
 ) -> Decided<'p>
     requires { frame.now.activation.place + 1 < 2 ^ 64 }
-    ensures { seen result ≡ array_decision parts.now.program
+    ensures { decision_value result ≡ array_decision parts.now.program
         parts.now.limits parts.now.state thread.now frame.now what }
 {
     match what {

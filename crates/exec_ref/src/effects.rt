@@ -12,7 +12,7 @@ ghost use Rattle.machine_parts.specs.Decided.{effect_value};
 ghost use Rattle.exec_ref.specs.Affecting.{AffectsNone, PutsAtMost};
 ghost use Rattle.machine_parts.specs.Machine.{with_state, after};
 ghost use Rattle.machine_parts.specs.Ready.{HasCaller};
-ghost use Rattle.trace.specs.Recording.{recorded};
+ghost use Rattle.trace.specs.Recording.{with_items};
 
 use crate::events::effect_item;
 use crate::new_objects::make_object;
@@ -105,7 +105,7 @@ fn start_thread(
 ) -> Result<(), AllocError>
     ensures state { OnOk result (parts.new ≡ with_state parts.old
         (affected parts.old.program parts.old.state t [] (effects.Starts reference started))) }
-    ensures items { OnOk result (trace.new ≡ recorded trace.old
+    ensures items { OnOk result (trace.new ≡ with_items trace.old
         (effect_items parts.old.program t (effects.Starts reference started))) }
     ensures kept { OnErr result (parts.new ≡ parts.old) }
     ensures no_items { OnErr result (trace.new ≡ trace.old) }
@@ -130,7 +130,7 @@ fn record<'p>(
     trace: &mut Recording,
 ) -> Result<(), AllocError>
     ensures ok { OnOk result (trace.new
-        ≡ recorded trace.old (effect_items parts.now.program t (effect_value effect.entry))) }
+        ≡ with_items trace.old (effect_items parts.now.program t (effect_value effect.entry))) }
     ensures err { OnErr result (trace.new ≡ trace.old) }
     ensures none { effect_items parts.now.program t (effect_value effect.entry) ≡ [] → IsOk result }
 {
@@ -156,14 +156,14 @@ fn affect<'p>(
         (parts.new ≡ with_state parts.old (affected parts.old.program parts.old.state t
         (operands_of (slice_get parts.old.state.threads t)) (effect_value effect.entry))) }
     ensures items { OnOk result (trace.new
-        ≡ recorded trace.old (effect_items parts.old.program t (effect_value effect.entry))) }
+        ≡ with_items trace.old (effect_items parts.old.program t (effect_value effect.entry))) }
     ensures kept { OnErr result (parts.new ≡ parts.old) }
     ensures no_items { OnErr result (trace.new ≡ trace.old) }
     ensures none { AffectsNone parts.old.state (effect_value effect.entry)
         → effect_items parts.old.program t (effect_value effect.entry) ≡ [] → IsOk result }
 {
     match effect {
-        Effect::Makes(what) => make_object(parts, t, what),
+        Effect::Creates(what) => make_object(parts, t, what),
         Effect::Prints { what, ends_line } => print(parts, what, ends_line),
         Effect::Locks(monitor) => parts.enter_monitor(t, monitor, trace),
         Effect::Unlocks(monitor) => parts.exit_monitor(t, monitor, trace),
@@ -193,10 +193,10 @@ pub fn reach<'p>(
 ) -> Result<(), AllocError>
     requires ready { IsReady parts.old.start parts.old.state t
         (action.Reaches (effect_value effect) act) }
-    requires stands { HasCaller parts.old.state t (action.Reaches (effect_value effect) act) }
+    requires next { HasCaller parts.old.state t (action.Reaches (effect_value effect) act) }
     ensures state { OnOk result
         (parts.new ≡ after parts.old t (action.Reaches (effect_value effect.entry) act)) }
-    ensures items { OnOk result (trace.new ≡ recorded trace.old
+    ensures items { OnOk result (trace.new ≡ with_items trace.old
         (items_of parts.old.program t (action.Reaches (effect_value effect.entry) act))) }
     ensures kept { OnErr result (parts.new ≡ parts.old) }
     ensures no_items { OnErr result (trace.new ≡ trace.old) }
@@ -205,6 +205,6 @@ pub fn reach<'p>(
         → IsOk result }
 {
     affect(parts, t, effect, trace)?;
-    parts.threads[t as usize].go_on(act);
+    parts.threads[t as usize].apply(act);
     Ok(())
 }

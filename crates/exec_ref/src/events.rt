@@ -133,8 +133,7 @@ pub(crate) fn effect_item<'p>(
             thread: t,
             started: thread,
         })),
-        Effect::Nothing | Effect::Makes(_) | Effect::Prints { .. } | Effect::Notifies { .. } => Ok(
-            None,
-        ),
+        Effect::Nothing | Effect::Creates(_) | Effect::Prints { .. } | Effect::Notifies { .. } =>
+            Ok(None),
     }
 }

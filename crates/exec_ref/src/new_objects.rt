@@ -89,7 +89,7 @@ fn make_arrays<'p>(
     dimensions: u8,
 ) -> Result<(), AllocError>
     requires { CanBeMade parts.old.state (operands_of (slice_get parts.old.state.threads t))
-        (effects.Makes (object_value (new_object.Arrays class dimensions))) }
+        (effects.Creates (object_value (new_object.Arrays class dimensions))) }
     ensures ok { OnOk result (parts.new ≡ with_state parts.old (with_new parts.old.program
         parts.old.state (operands_of (slice_get parts.old.state.threads t))
         (object_value (new_object.Arrays class.entry dimensions)))) }
@@ -107,7 +107,7 @@ pub(crate) fn make_object<'p>(
     what: NewObject<ActionText<'p>>,
 ) -> Result<(), AllocError>
     requires { CanBeMade parts.old.state (operands_of (slice_get parts.old.state.threads t))
-        (effects.Makes (object_value what)) }
+        (effects.Creates (object_value what)) }
     ensures ok { OnOk result
         (parts.new ≡ with_state parts.old (with_new parts.old.program parts.old.state
         (operands_of (slice_get parts.old.state.threads t)) (object_value what.entry))) }

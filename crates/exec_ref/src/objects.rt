@@ -14,7 +14,7 @@ ghost use Rattle.jvms_machine.specs.declared.action.Effect.TheVariants as effect
 ghost use Rattle.jvms_machine.specs.declared.action.NewObject.TheVariants as new_object;
 ghost use Rattle.jvms_program.specs.declared.program.Loadable.TheVariants as loadable;
 ghost use Rattle.jvms_machine.specs.State.{class_reference, text_reference};
-ghost use Rattle.machine_parts.specs.Decided.{seen, object_value};
+ghost use Rattle.machine_parts.specs.Decided.{decision_value, object_value};
 ghost use Rattle.machine_parts.specs.Sites.{IsSite};
 ghost use Rattle.exec_ref.specs.InstanceTests.{by_instance_test};
 
@@ -53,7 +53,7 @@ fn is_instantiable(kind: ClassKind) -> bool
 
 /// Returns the decision of JVMS 6.5 `instanceof` to replace the object by the result of the test.
 fn instance_test_result<'p>(is_instance: bool) -> Decided<'p>
-    ensures { seen result ≡ instance_test_result is_instance }
+    ensures { decision_value result ≡ instance_test_result is_instance }
 {
     let value = Value::Int(i32::from(is_instance));
     reaches(Effect::Nothing, FrameAction::Push { takes: 1, value })
@@ -66,7 +66,8 @@ fn creation_if_room<'p>(
     takes: u8,
     what: NewObject<ActionText<'p>>,
 ) -> Decided<'p>
-    ensures { seen result ≡ creation_if_room parts.now.limits parts.now.state thread.now takes
+    ensures { decision_value result
+        ≡ creation_if_room parts.now.limits parts.now.state thread.now takes
         (object_value what.entry) }
 {
     if parts.has_room() {
@@ -83,7 +84,7 @@ fn instance_of_number<'p>(
     thread: &Thread,
     class: ClassNumber,
 ) -> Decided<'p>
-    ensures { seen result ≡ instance_of_number parts.now.program
+    ensures { decision_value result ≡ instance_of_number parts.now.program
         parts.now.limits parts.now.state t thread.now (Some class) }
 {
     match parts.asking(t, thread, class) {
@@ -120,7 +121,7 @@ fn new_instance_decision<'p>(
     name: &[u16],
 ) -> Decided<'p>
     requires { IsSite parts.now.program frame.now (instruction.Class class_use.New name.now) }
-    ensures { seen result ≡ new_instance_decision parts.now.program parts.now.limits
+    ensures { decision_value result ≡ new_instance_decision parts.now.program parts.now.limits
         parts.now.state t thread.now name.now (class_named parts.now.program name.now) }
 {
     match class_of_site(parts, frame, ClassUse::New, name) {
@@ -175,7 +176,7 @@ fn test_top<'p>(parts: &Parts<'p>, thread: &Thread, frame: &Frame, name: &[u16])
 /// Decides JVMS 6.5 `checkcast`. The object stays on the operand stack.
 fn cast_decision<'p>(parts: &Parts<'p>, thread: &Thread, frame: &Frame, name: &[u16]) -> Decided<'p>
     requires { frame.now.activation.place + 1 < 2 ^ 64 }
-    ensures { seen result ≡ if_deep frame.now 1 1
+    ensures { decision_value result ≡ if_deep frame.now 1 1
         (with_class_of parts.now.program parts.now.limits parts.now.state thread.now name.now
         frame.now.activation.operands (reaches effect.Nothing (taking 0 frame.now.activation))
         (cast parts.now.limits parts.now.state thread.now frame.now)) }
@@ -200,7 +201,7 @@ fn instance_test_decision<'p>(
     frame: &Frame,
     name: &[u16],
 ) -> Decided<'p>
-    ensures { seen result ≡ if_deep frame.now 1 1
+    ensures { decision_value result ≡ if_deep frame.now 1 1
         (with_class_of parts.now.program parts.now.limits parts.now.state thread.now name.now
         frame.now.activation.operands (instance_test_result false) instance_test_result) }
 {
@@ -226,7 +227,7 @@ pub fn class_decision<'p>(
 ) -> Decided<'p>
     requires place { frame.now.activation.place + 1 < 2 ^ 64 }
     requires site { IsSite parts.now.program frame.now (instruction.Class how name.now) }
-    ensures { seen result ≡ class_decision parts.now.program parts.now.limits
+    ensures { decision_value result ≡ class_decision parts.now.program parts.now.limits
         parts.now.state t thread.now frame.now how name.now }
 {
     match how {
@@ -247,13 +248,14 @@ pub fn class_decision<'p>(
 fn existing_or_new<'p>(
     parts: &Parts<'p>,
     thread: &Thread,
-    held: Option<u32>,
+    existing: Option<u32>,
     what: NewObject<ActionText<'p>>,
 ) -> Decided<'p>
-    ensures { seen result ≡ existing_or_new parts.now.limits parts.now.state thread.now held
+    ensures { decision_value result
+        ≡ existing_or_new parts.now.limits parts.now.state thread.now existing
         (object_value what.entry) }
 {
-    match held {
+    match existing {
         None => creation_if_room(parts, thread, 0, what),
         Some(reference) => {
             let value = Value::Reference(reference);
@@ -269,25 +271,27 @@ fn string_decision<'p>(
     frame: &Frame,
     units: &'p Text,
 ) -> Decided<'p>
-    ensures { seen result ≡ if_deep frame.now 0 1 (existing_or_new parts.now.limits parts.now.state
-        thread.now (text_reference parts.now.state.heap units.now) (new_object.Text units.now)) }
+    ensures { decision_value result
+        ≡ if_deep frame.now 0 1
+        (existing_or_new parts.now.limits parts.now.state thread.now
+        (text_reference parts.now.state.heap units.now) (new_object.Text units.now)) }
 {
     if !has_depth(frame, 0, 1) {
         return bad(BadCause::Depth);
     }
-    let held = parts.heap.text_reference(units.as_slice());
+    let existing = parts.heap.text_reference(units.as_slice());
     let units = ActionText::Of(units);
-    existing_or_new(parts, thread, held, NewObject::Text { units })
+    existing_or_new(parts, thread, existing, NewObject::Text { units })
 }
 
 /// Decides to push the object of an existing class.
 fn class_object_decision<'p>(parts: &Parts<'p>, thread: &Thread, name: &'p Text) -> Decided<'p>
-    ensures { seen result ≡ existing_or_new parts.now.limits parts.now.state thread.now
+    ensures { decision_value result ≡ existing_or_new parts.now.limits parts.now.state thread.now
         (class_reference parts.now.state.heap name.now) (new_object.ClassObject name.now) }
 {
-    let held = parts.heap.class_reference(name.as_slice());
+    let existing = parts.heap.class_reference(name.as_slice());
     let name = ActionText::Of(name);
-    existing_or_new(parts, thread, held, NewObject::ClassObject { name })
+    existing_or_new(parts, thread, existing, NewObject::ClassObject { name })
 }
 
 /// Decides JVMS 6.5 `ldc` of a class.
@@ -298,7 +302,7 @@ fn named_class_decision<'p>(
     frame: &Frame,
     name: &'p Text,
 ) -> Decided<'p>
-    ensures { seen result ≡ loadable_decision parts.now.program parts.now.limits
+    ensures { decision_value result ≡ loadable_decision parts.now.program parts.now.limits
         parts.now.state thread.now frame.now (loadable.Class name.now) }
 {
     if !has_depth(frame, 0, 1) {
@@ -319,7 +323,7 @@ pub fn loadable_decision<'p>(
     frame: &Frame,
     what: &'p Loadable,
 ) -> Decided<'p>
-    ensures { seen result ≡ loadable_decision parts.now.program
+    ensures { decision_value result ≡ loadable_decision parts.now.program
         parts.now.limits parts.now.state thread.now frame.now what.now }
 {
     match what {

@@ -6,7 +6,7 @@ use Rattle.jvms_file.specs.Results.{◌>>=◌}
 use Rattle.jvms_program.specs.declared.program.Class.{Class}
 use Rattle.jvms_machine.specs.declared.machine.Entry.{Entry}
 use Rattle.jvms_machine.specs.declared.machine.Limits.{Limits}
-use Rattle.jvms_machine.specs.Opening.{StartFault, made}
+use Rattle.jvms_machine.specs.Opening.{StartFault, start_of_entry}
 use Rattle.jvms_machine.specs.Start.{Start}
 use Rattle.machine.specs.Started.{opened}
 use Rattle.schedule.specs.Choosers.{Chooser}
@@ -15,12 +15,12 @@ use Rattle.program_runs.specs.declared.feeding.Judgement.{Judgement}
 use Rattle.program_runs.specs.declared.tracing.TracedRun.{TracedRun}
 use Rattle.program_runs.specs.Shown.{HasEnding, Shown, ending_shown, view_of_program, view_of_traced, view_of_run}
 use Rattle.judge.specs.Judgement.{IsJudgement, IsJudgementOn}
-use Rattle.judge.specs.Programs.{NotRun, not_made, refused}
+use Rattle.judge.specs.Programs.{NotRun, not_made, with_reason}
 use Rattle.explaining.specs.Explanations.{program_explanation, run_explanation}
 
 -- The run that is shown starts with the machine of this start.
 same_run : (most : ℕ) (chooser : Chooser) (limits : Limits) (program : List Class) (entry : Entry) (start : Start) (shown : Shown)
-    → made program limits entry ≡ Ok start → view_of_program most chooser limits program entry ≡ Ok shown
+    → start_of_entry program limits entry ≡ Ok start → view_of_program most chooser limits program entry ≡ Ok shown
     → view_of_run most chooser (opened program limits start) ≡ shown
 unfolding view_of_program
 same_run most chooser limits program entry start shown is shows =
@@ -29,7 +29,7 @@ same_run most chooser limits program entry start shown is shows =
 
 -- The explanation of the run.
 pub is_explanation : (first : ℕ) (files : List ClassFile) (lines : Option Specification) (j : Option Judgement) (most : ℕ) (chooser : Chooser) (limits : Limits) (program : List Class) (entry : Entry) (start : Start) (shown : Shown) (text : List ℕ)
-    → made program limits entry ≡ Ok start → view_of_program most chooser limits program entry ≡ Ok shown
+    → start_of_entry program limits entry ≡ Ok start → view_of_program most chooser limits program entry ≡ Ok shown
     → text ≡ run_explanation first files lines j (opened program limits start) shown
     → program_explanation first files lines j most chooser limits program entry ≡ Ok text
 unfolding program_explanation
@@ -40,9 +40,9 @@ is_explanation first files lines j most chooser limits program entry start shown
 
 -- How the run ended.
 pub ends_so : (run : TracedRun) (said : Result Shown StartFault) → said ≡ Ok (view_of_traced run) → run.ending.turns ≡ length run.choices
-    → HasEnding (refused not_made said) run.ending
+    → HasEnding (with_reason not_made said) run.ending
 ends_so run said shows turns =
-    let P : Result Shown StartFault → Type 0 = λ r. HasEnding (refused not_made r) run.ending in
+    let P : Result Shown StartFault → Type 0 = λ r. HasEnding (with_reason not_made r) run.ending in
     subst P (sym shows) (ap (λ n. record { turns = n; result = run.ending.result; output = run.ending.output; status = run.ending.status; uncaught = run.ending.uncaught }) turns)
 
 judged_so : (lines : Option Specification) (shown : Shown) (j : Option Judgement) → IsJudgement lines shown.items j
@@ -54,7 +54,7 @@ judged_so (Some lines) shown None is = absurd is
 
 -- The verdict on the run.
 pub is_judged : (lines : Option Specification) (shown : Shown) (j : Option Judgement) (said : Result Shown StartFault) → said ≡ Ok shown
-    → IsJudgement lines shown.items j → IsJudgementOn lines (refused not_made said) j
+    → IsJudgement lines shown.items j → IsJudgementOn lines (with_reason not_made said) j
 is_judged lines shown j said shows is =
-    let P : Result Shown StartFault → Type 0 = λ r. IsJudgementOn lines (refused not_made r) j in
+    let P : Result Shown StartFault → Type 0 = λ r. IsJudgementOn lines (with_reason not_made r) j in
     subst P (sym shows) (judged_so lines shown j is)

@@ -9,7 +9,7 @@ use Rattle.jvms_machine.specs.declared.machine.Limits.{Limits}
 use Rattle.jvms_machine.specs.declared.machine.Status.{Status}
 use Rattle.jvms_machine.specs.declared.machine.Status.TheVariants as status
 use Rattle.jvms_machine.specs.declared.trace.Item.{Item}
-use Rattle.jvms_machine.specs.Opening.{StartFault, made}
+use Rattle.jvms_machine.specs.Opening.{StartFault, start_of_entry}
 use Rattle.machine.specs.Machine.{Machine, with_state}
 use Rattle.machine.specs.Runs.{run_of}
 use Rattle.machine.specs.Started.{opened}
@@ -20,7 +20,7 @@ use Rattle.program_runs.specs.declared.feeding.Judgement.{Judgement}
 use Rattle.program_runs.specs.Shown.{Shown, view_of_run}
 use Rattle.report.specs.CycleTexts.{explanation}
 use Rattle.inputs.specs.declared.input.Input.{Input}
-use Rattle.judge.specs.Programs.{NotRun, classes_from, not_made, program_in, refused}
+use Rattle.judge.specs.Programs.{NotRun, classes_from, not_made, program_in, with_reason}
 use Rattle.needs.specs.Unmatched.{unmatched_lines}
 use Rattle.explaining.specs.declared.event_turns.EventTurn.{EventTurn}
 use Rattle.explaining.specs.EventPlaces.{event_places, pairs_of}
@@ -64,7 +64,7 @@ run_explanation first files lines j m shown =
 -- Returns the explanation of the run of a chooser's choices, up to `most`, from an entry of a program on.
 unfoldable pub program_explanation : ℕ → List ClassFile → Option Specification → Option Judgement → ℕ → Chooser → Limits → List Class → Entry → Result (List ℕ) StartFault
 program_explanation first files lines j most chooser limits program entry = do
-  start ← made program limits entry
+  start ← start_of_entry program limits entry
   Ok (run_explanation first files lines j (opened program limits start) (view_of_run most chooser (opened program limits start)))
 
 -- Returns the explanation for the program of inputs. Its last classes are those of the inputs.
@@ -72,4 +72,4 @@ unfoldable pub explanation_of_inputs : Option Specification → Option Judgement
 explanation_of_inputs lines j most chooser limits inputs entry = do
   program ← program_in inputs
   files ← classes_from 0 inputs
-  refused not_made (program_explanation (length program - length files) files lines j most chooser limits program entry)
+  with_reason not_made (program_explanation (length program - length files) files lines j most chooser limits program entry)

@@ -7,7 +7,7 @@ ghost use Rattle.machine.specs.Machine.{transition_of, with_state};
 ghost use Rattle.machine.specs.Runs.{run_of};
 ghost use Rattle.runs.specs.Choices.{after_turn};
 ghost use Rattle.velodrome.specs.Transactions.{is_event};
-ghost use Rattle.machine.specs.Views.{shown};
+ghost use Rattle.machine.specs.Views.{frame_of};
 ghost use Rattle.explaining.specs.EventTurns.{call_place, event_turns, turn_at};
 
 use jvms_machine::machine::ThreadId;
@@ -29,7 +29,7 @@ pub struct EventTurn {
 
 /// Returns the method and the next instruction of a call.
 fn call_place(frame: &Option<FrameView<'_, '_>>) -> Option<(MethodNumber, usize)>
-    ensures { result ≡ call_place (option_map shown frame.now) }
+    ensures { result ≡ call_place (option_map frame_of frame.now) }
 {
     match frame {
         None => None,

@@ -4,7 +4,7 @@ ghost use Rattle.std.specs.Prelude.{◌≡◌, ◌++◌, OnOk, option_copied};
 ghost use Rattle.std.specs.Option.{option_map};
 ghost use Rattle.std.specs.String.{string_bytes};
 ghost use Rattle.jvms_machine.specs.Steps.{instruction_at};
-ghost use Rattle.machine.specs.Views.{shown};
+ghost use Rattle.machine.specs.Views.{frame_of};
 ghost use Rattle.explaining.specs.Places.{at_part, call_part, frame_part, need_part};
 
 use frames::Frame;
@@ -70,7 +70,7 @@ pub(crate) fn put_frame_part(
     frame: &Option<FrameView<'_, '_>>,
 ) -> Result<(), AllocError>
     ensures { OnOk result (string_bytes out.new ≡ string_bytes out.old ++ frame_part program.now
-        sources.now.first sources.now.files.now (option_map shown frame.now)) }
+        sources.now.first sources.now.files.now (option_map frame_of frame.now)) }
 {
     match frame {
         None => Ok(()),

@@ -2,7 +2,7 @@
 
 ghost use Rattle.std.specs.Prelude.{◌≡◌, List, ℕ, IfOk, Ok};
 ghost use Rattle.std.specs.String.{string_bytes};
-ghost use Rattle.jvms_machine.specs.Opening.{made};
+ghost use Rattle.jvms_machine.specs.Opening.{start_of_entry};
 ghost use Rattle.jvms_machine.specs.Start.{Start};
 ghost use Rattle.machine.specs.Started.{opened};
 ghost use Rattle.explaining.specs.EventTurns.{event_turns};
@@ -83,7 +83,8 @@ pub(crate) fn replay(
     choices: &[ThreadId],
     ending: &Ending,
 ) -> Result<Replayed, MachineFault>
-    ensures { IfOk result (λ r. (start : Start) × (made program.now limits entry.now ≡ Ok start)
+    ensures { IfOk result (λ r. (start : Start)
+        × (start_of_entry program.now limits entry.now ≡ Ok start)
         × (r.events.items ≡ event_turns 1 (opened program.now limits start) choices.now)
         × (string_bytes r.lines ≡ stuck_lines sources.now.first sources.now.files.now
         (opened program.now limits start) choices.now ending.now.uncaught ending.now.status)) }

@@ -4,7 +4,7 @@ ghost use Rattle.std.specs.Prelude.{◌≡◌, ◌++◌, IfOk, OnOk, Some};
 ghost use Rattle.std.specs.Option.{option_map};
 ghost use Rattle.std.specs.String.{string_bytes};
 ghost use Rattle.jvms_machine.specs.declared.state.StackFrame.TheVariants.{Call};
-ghost use Rattle.machine.specs.Views.{shown};
+ghost use Rattle.machine.specs.Views.{frame_of};
 ghost use Rattle.explaining.specs.Stops.{is_known_better, is_stopped, stop_line, stop_lines, stop_text};
 
 use crate::places::{put_call, put_need_part};
@@ -72,7 +72,7 @@ fn put_stop(
     frame: &Option<FrameView<'_, '_>>,
 ) -> Result<(), AllocError>
     ensures { OnOk result (string_bytes out.new ≡ string_bytes out.old ++ stop_text program.now
-        sources.now.first sources.now.files.now thread (option_map shown frame.now)) }
+        sources.now.first sources.now.files.now thread (option_map frame_of frame.now)) }
 {
     match frame {
         None => Ok(()),

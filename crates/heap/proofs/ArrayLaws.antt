@@ -10,13 +10,13 @@ use Rattle.jvms_machine.specs.declared.value.Value.TheVariants as value
 use Rattle.jvms_machine.specs.State.{Object, array}
 use Rattle.jvms_machine.specs.Heap.{arrays_made, component_type, elements_made, part_references, new_arrays, first_element}
 use Rattle.jvms_machine.proofs.ListLaws.{all_append}
-use Rattle.heap.specs.declared.held_object.StoredObject.{StoredObject}
-use Rattle.heap.specs.declared.held_object.StoredObject.TheVariants as held
+use Rattle.heap.specs.declared.stored_object.StoredObject.{StoredObject}
+use Rattle.heap.specs.declared.stored_object.StoredObject.TheVariants as stored
 use Rattle.array_elements.specs.declared.elements.Elements.TheVariants as elements
 use Rattle.array_elements.specs.declared.kind.Kind.TheVariants as kind
 use Rattle.array_elements.specs.Elements.{reference_value}
 use Rattle.array_elements.specs.Kinds.{kind_of}
-use Rattle.heap.specs.Held.{shown, IsKept, IsPlain, AreStored}
+use Rattle.heap.specs.Stored.{object_of, IsKept, IsPlain, AreStored}
 use Rattle.heap.specs.Arrays.{IsArray, AppendsArrays}
 use Rattle.heap.proofs.MakingLaws.{plain_added}
 
@@ -112,7 +112,7 @@ references_shown first size n references is over = ap (map reference_value) is �
 
 -- An array of n parts, by their references.
 pub parts_held : (first size n : ℕ) (t class : List ℕ) (references : Vec ℕ Global) → t ≡ class → references.items ≡ part_references first size n → 0 < first → n < 2 ^ 31 → kind_of (component_type class) ≡ kind.Reference
-    → IsArray (held.Array t (elements.References references)) (array class (map value.Reference (part_references first size n)))
+    → IsArray (stored.Array t (elements.References references)) (array class (map value.Reference (part_references first size n)))
 parts_held first size n t class references same are over few of_references =
     let as_many = length-map references.items reference_value in
     let parts = ap length are ∙ length-map (range_with_len 0 n) (λ i. first + i * size) ∙ length-range_with_len 0 n in
@@ -136,7 +136,7 @@ made_more a b c xs ys first second =
     record {
       new = first.new ++ second.new;
       put = second.put ∙ ap (λ l. l ++ second.new) first.put ∙ append_assoc a first.new second.new;
-      show = λ program. map-append (shown program) first.new second.new ∙ ap (λ l. l ++ map (shown program) second.new) (first.show program) ∙ ap (λ l. xs ++ l) (second.show program);
+      show = λ program. map-append (object_of program) first.new second.new ∙ ap (λ l. l ++ map (object_of program) second.new) (first.show program) ∙ ap (λ l. xs ++ l) (second.show program);
       kept = λ program. all_append (IsKept program) first.new second.new (first.kept program) (second.kept program);
       plain = all_append IsPlain first.new second.new first.plain second.plain;
     }

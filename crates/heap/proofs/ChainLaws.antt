@@ -11,7 +11,7 @@ use Rattle.jvms_program.specs.Resolution.{chain, chain_within}
 use Rattle.jvms_machine.specs.declared.value.Value.{Value}
 use Rattle.jvms_machine.specs.State.{default_value, fields_where, instance_fields}
 use Rattle.heap.specs.FirstValues.{own_values, values_down}
-use Rattle.heap.specs.Held.{name_at}
+use Rattle.heap.specs.Stored.{name_at}
 
 -- ---- Up the superclasses
 

@@ -3,7 +3,6 @@ pub mod ChainLaws
 pub mod CopyLaws
 pub mod DimensionLaws
 pub mod Ends
-pub mod HeldLaws
 pub mod KeyLaws
 pub mod MakingLaws
 pub mod NamedLaws
@@ -12,5 +11,6 @@ pub mod SameLaws
 pub mod SavedLaws
 pub mod SlotLaws
 pub mod StaticLaws
+pub mod StoredLaws
 pub mod TakenBack
 pub mod TextLaws

@@ -8,10 +8,10 @@ use Rattle.jvms_program.specs.declared.program.Class.{Class}
 use Rattle.jvms_file.specs.Names.{same_text}
 use Rattle.jvms_machine.specs.State.{Object, instance, instance_fields, first_instance, is_text, is_class_object}
 use Rattle.jvms_machine.proofs.ListLaws.{all_append}
-use Rattle.heap.specs.declared.held_object.StoredObject.{StoredObject}
-use Rattle.heap.specs.declared.held_object.StoredObject.TheVariants as held
-use Rattle.heap.specs.Held.{name_at, with_values, shown, IsKept, IsPlain, AreStored}
-use Rattle.text_index.specs.Found.{found}
+use Rattle.heap.specs.declared.stored_object.StoredObject.{StoredObject}
+use Rattle.heap.specs.declared.stored_object.StoredObject.TheVariants as stored
+use Rattle.heap.specs.Stored.{name_at, with_values, object_of, IsKept, IsPlain, AreStored}
+use Rattle.text_index.specs.Lookup.{indexed_reference}
 use Rattle.heap.proofs.SlotLaws.{first_values_are}
 
 -- ---- Searches
@@ -34,24 +34,24 @@ position_more test n (y ∷ xs) x =
 
 -- ---- An instance or an array
 
-plain_no_text : (program : List Class) (o : StoredObject) (units : List ℕ) → IsPlain o → is_text units (shown program o) ≡ false
-plain_no_text program (held.Instance class values) units plain = refl
-plain_no_text program (held.Array class elements) units plain = refl
-plain_no_text program (held.Text t) units plain = absurd plain
-plain_no_text program (held.ClassObject t) units plain = absurd plain
+plain_no_text : (program : List Class) (o : StoredObject) (units : List ℕ) → IsPlain o → is_text units (object_of program o) ≡ false
+plain_no_text program (stored.Instance class values) units plain = refl
+plain_no_text program (stored.Array class elements) units plain = refl
+plain_no_text program (stored.Text t) units plain = absurd plain
+plain_no_text program (stored.ClassObject t) units plain = absurd plain
 
-plain_no_class : (program : List Class) (o : StoredObject) (name : List ℕ) → IsPlain o → is_class_object name (shown program o) ≡ false
-plain_no_class program (held.Instance class values) name plain = refl
-plain_no_class program (held.Array class elements) name plain = refl
-plain_no_class program (held.Text t) name plain = absurd plain
-plain_no_class program (held.ClassObject t) name plain = absurd plain
+plain_no_class : (program : List Class) (o : StoredObject) (name : List ℕ) → IsPlain o → is_class_object name (object_of program o) ≡ false
+plain_no_class program (stored.Instance class values) name plain = refl
+plain_no_class program (stored.Array class elements) name plain = refl
+plain_no_class program (stored.Text t) name plain = absurd plain
+plain_no_class program (stored.ClassObject t) name plain = absurd plain
 
 module _ (program : List Class) (objects : List StoredObject) where
-  pub shown_more : (o : StoredObject) → map (shown program) (objects ++ o ∷ []) ≡ map (shown program) objects ++ shown program o ∷ []
-  shown_more o = map-append (shown program) objects (o ∷ [])
+  pub shown_more : (o : StoredObject) → map (object_of program) (objects ++ o ∷ []) ≡ map (object_of program) objects ++ object_of program o ∷ []
+  shown_more o = map-append (object_of program) objects (o ∷ [])
 
-  still_past : (test : Object → Bool) (o : StoredObject) → test (shown program o) ≡ false → position_from test 1 (map (shown program) objects) ≡ position_from test 1 (map (shown program) (objects ++ o ∷ []))
-  still_past test o fails = sym (ap (position_from test 1) (shown_more o) ∙ position_past test 1 (map (shown program) objects) (shown program o) fails)
+  still_past : (test : Object → Bool) (o : StoredObject) → test (object_of program o) ≡ false → position_from test 1 (map (object_of program) objects) ≡ position_from test 1 (map (object_of program) (objects ++ o ∷ []))
+  still_past test o fails = sym (ap (position_from test 1) (shown_more o) ∙ position_past test 1 (map (object_of program) objects) (object_of program o) fails)
 
   pub plain_added : (texts classes : List (List ℕ × ℕ)) (o : StoredObject) → AreStored program objects texts classes → IsKept program o → IsPlain o → AreStored program (objects ++ o ∷ []) texts classes
   plain_added texts classes o are kept plain =
@@ -63,38 +63,38 @@ module _ (program : List Class) (objects : List StoredObject) where
 
   -- ---- A string or a class object
 
-  found_more : (test : List ℕ → Object → Bool) (entries new : List (List ℕ × ℕ)) (units : List ℕ) (o : StoredObject) → ((q : List ℕ) → found entries q ≡ position_from (test q) 1 (map (shown program) objects))
-      → ((q : List ℕ) → test q (shown program o) ≡ same_text units q) → ((q : List ℕ) → found new q ≡ option_or (found entries q) (cond (same_text units q) (Some (length objects + 1)) None))
-      → (q : List ℕ) → found new q ≡ position_from (test q) 1 (map (shown program) (objects ++ o ∷ []))
+  found_more : (test : List ℕ → Object → Bool) (entries new : List (List ℕ × ℕ)) (units : List ℕ) (o : StoredObject) → ((q : List ℕ) → indexed_reference entries q ≡ position_from (test q) 1 (map (object_of program) objects))
+      → ((q : List ℕ) → test q (object_of program o) ≡ same_text units q) → ((q : List ℕ) → indexed_reference new q ≡ option_or (indexed_reference entries q) (cond (same_text units q) (Some (length objects + 1)) None))
+      → (q : List ℕ) → indexed_reference new q ≡ position_from (test q) 1 (map (object_of program) (objects ++ o ∷ []))
   found_more test entries new units o finds tests puts q =
-      let as_many = length-map objects (shown program) in
-      let next : length objects + 1 ≡ 1 + length (map (shown program) objects) = omega (arith, as_many) in
-      let before = position_from (test q) 1 (map (shown program) objects) in
+      let as_many = length-map objects (object_of program) in
+      let next : length objects + 1 ≡ 1 + length (map (object_of program) objects) = omega (arith, as_many) in
+      let before = position_from (test q) 1 (map (object_of program) objects) in
       puts q ∙ ap (λ f. option_or f (cond (same_text units q) (Some (length objects + 1)) None)) (finds q)
-      ∙ ap (λ b. option_or before (cond b (Some (length objects + 1)) None)) (sym (tests q)) ∙ ap (λ k. option_or before (cond (test q (shown program o)) (Some k) None)) next
-      ∙ sym (position_more (test q) 1 (map (shown program) objects) (shown program o)) ∙ ap (position_from (test q) 1) (sym (shown_more o))
+      ∙ ap (λ b. option_or before (cond b (Some (length objects + 1)) None)) (sym (tests q)) ∙ ap (λ k. option_or before (cond (test q (object_of program o)) (Some k) None)) next
+      ∙ sym (position_more (test q) 1 (map (object_of program) objects) (object_of program o)) ∙ ap (position_from (test q) 1) (sym (shown_more o))
 
   pub text_added : (texts new classes : List (List ℕ × ℕ)) (units t : List ℕ) → AreStored program objects texts classes → t ≡ units
-      → ((q : List ℕ) → found new q ≡ option_or (found texts q) (cond (same_text units q) (Some (length objects + 1)) None)) → AreStored program (objects ++ held.Text t ∷ []) new classes
+      → ((q : List ℕ) → indexed_reference new q ≡ option_or (indexed_reference texts q) (cond (same_text units q) (Some (length objects + 1)) None)) → AreStored program (objects ++ stored.Text t ∷ []) new classes
   text_added texts new classes units t are is puts =
       record {
-        kept = all_append (IsKept program) objects (held.Text t ∷ []) are.kept (tt, tt);
-        finds_texts = found_more is_text texts new units (held.Text t) are.finds_texts (λ q. ap (λ l. same_text l q) is) puts;
-        finds_classes = λ name. are.finds_classes name ∙ still_past (is_class_object name) (held.Text t) refl;
+        kept = all_append (IsKept program) objects (stored.Text t ∷ []) are.kept (tt, tt);
+        finds_texts = found_more is_text texts new units (stored.Text t) are.finds_texts (λ q. ap (λ l. same_text l q) is) puts;
+        finds_classes = λ name. are.finds_classes name ∙ still_past (is_class_object name) (stored.Text t) refl;
       }
 
   pub class_added : (texts classes new : List (List ℕ × ℕ)) (name t : List ℕ) → AreStored program objects texts classes → t ≡ name
-      → ((q : List ℕ) → found new q ≡ option_or (found classes q) (cond (same_text name q) (Some (length objects + 1)) None)) → AreStored program (objects ++ held.ClassObject t ∷ []) texts new
+      → ((q : List ℕ) → indexed_reference new q ≡ option_or (indexed_reference classes q) (cond (same_text name q) (Some (length objects + 1)) None)) → AreStored program (objects ++ stored.ClassObject t ∷ []) texts new
   class_added texts classes new name t are is puts =
       record {
-        kept = all_append (IsKept program) objects (held.ClassObject t ∷ []) are.kept (tt, tt);
-        finds_texts = λ units. are.finds_texts units ∙ still_past (is_text units) (held.ClassObject t) refl;
-        finds_classes = found_more is_class_object classes new name (held.ClassObject t) are.finds_classes (λ q. ap (λ l. same_text l q) is) puts;
+        kept = all_append (IsKept program) objects (stored.ClassObject t ∷ []) are.kept (tt, tt);
+        finds_texts = λ units. are.finds_texts units ∙ still_past (is_text units) (stored.ClassObject t) refl;
+        finds_classes = found_more is_class_object classes new name (stored.ClassObject t) are.finds_classes (λ q. ap (λ l. same_text l q) is) puts;
       }
 
 -- An instance with the first values denotes a first instance.
 pub first_shown : (program : List Class) (class : ℕ) (values : Vec Value Global) → values.items ≡ map (λ f. f.1) (instance_fields program (name_at program class))
-    → shown program (held.Instance class values) ≡ first_instance program (name_at program class)
+    → object_of program (stored.Instance class values) ≡ first_instance program (name_at program class)
 first_shown program class values are =
     let fields = instance_fields program (name_at program class) in
     ap (instance (name_at program class)) (ap (with_values fields) are ∙ first_values_are fields)

@@ -7,7 +7,7 @@ use Rattle.jvms_machine.specs.State.{array, first_instance}
 use Rattle.jvms_machine.specs.Heap.{first_element}
 use Rattle.jvms_machine.specs.Opening.{opening_heap}
 use Rattle.heap.specs.Objects.{Heap, with_new, with_arrays}
-use Rattle.heap.specs.Held.{name_at}
+use Rattle.heap.specs.Stored.{name_at}
 
 out_of_memory_name : (own : List Class) → name_at (built_in_classes ++ own) 35 ≡ codes "java/lang/OutOfMemoryError"
 unfolding built_in_classes

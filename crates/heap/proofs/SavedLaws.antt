@@ -2,8 +2,8 @@
 use Rattle.std.proofs.Common.{◌≡◌, ℕ, zero, suc, ◌<◌, List, [], ◌∷◌, ◌++◌, length, get_or, flat_map, sym, subst, arith}
 use Rattle.std.specs.List.{AllByRecursion}
 use Rattle.jvms_program.specs.declared.program.Class.{Class}
-use Rattle.heap.specs.declared.held_object.StoredObject.{StoredObject}
-use Rattle.heap.specs.Held.{IsKept}
+use Rattle.heap.specs.declared.stored_object.StoredObject.{StoredObject}
+use Rattle.heap.specs.Stored.{IsKept}
 
 all_front : {X : Type 0} (P : X → Type 0) (xs ys : List X) → AllByRecursion P (xs ++ ys) → AllByRecursion P xs
 all_front P [] ys all = tt

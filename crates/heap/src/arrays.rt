@@ -10,7 +10,7 @@ ghost use Rattle.heap.specs.Objects.{HasDimensions, with_arrays};
 ghost use Rattle.heap.specs.Arrays.{IsArray, AppendsArrays};
 
 use crate::heap::Heap;
-use crate::held_object::StoredObject;
+use crate::stored_object::StoredObject;
 use array_elements::{Elements, component, kind_of_array};
 use shared_data::shared::Text;
 use shared_data::texts::copied_text;

@@ -2,11 +2,11 @@
 
 ghost use Rattle.std.specs.Prelude.{◌≡◌, ◌++◌, IfOk, OnOk, map};
 ghost use Rattle.std.specs.List.{AllByRecursion};
-ghost use Rattle.heap.specs.Held.{shown, IsKept};
+ghost use Rattle.heap.specs.Stored.{object_of, IsKept};
 
 use crate::heap::Heap;
-use crate::held_object::StoredObject;
 use crate::primitive_arrays::PrimitiveArrays;
+use crate::stored_object::StoredObject;
 use program::Program;
 use std::alloc::{AllocError, Global};
 
@@ -19,8 +19,8 @@ pub(crate) fn push_copies(
 ) -> Result<(), AllocError>
     requires objects { AllByRecursion (IsKept program.now) objects.now }
     requires copies { AllByRecursion (IsKept program.now) copies.old.items }
-    ensures shown { OnOk result (map (shown program.now) copies.new.items
-        ≡ map (shown program.now) copies.old.items ++ map (shown program.now) objects.now) }
+    ensures shown { OnOk result (map (object_of program.now) copies.new.items
+        ≡ map (object_of program.now) copies.old.items ++ map (object_of program.now) objects.now) }
     ensures kept { OnOk result (AllByRecursion (IsKept program.now) copies.new.items) }
 {
     // Only for the proof: the objects are of this program.
@@ -39,7 +39,8 @@ pub(crate) fn copied(
 ) -> Result<Vec<StoredObject>, AllocError>
     requires { AllByRecursion (IsKept program.now) objects.now }
     ensures shown { IfOk result
-        (λ copies. map (shown program.now) copies.items ≡ map (shown program.now) objects.now) }
+        (λ copies. map (object_of program.now) copies.items
+        ≡ map (object_of program.now) objects.now) }
     ensures kept { IfOk result (λ copies. AllByRecursion (IsKept program.now) copies.items) }
 {
     let mut copies = Vec::with_capacity(alloc, objects.len())?;

@@ -5,7 +5,7 @@ ghost use Rattle.std.specs.List.{flat_map};
 ghost use Rattle.jvms_program.specs.Resolution.{chain};
 ghost use Rattle.jvms_machine.specs.State.{default_of_element, default_value, instance_fields};
 ghost use Rattle.heap.specs.FirstValues.{own_values, values_down};
-ghost use Rattle.heap.specs.Held.{name_at};
+ghost use Rattle.heap.specs.Stored.{name_at};
 
 use classes::superclass_name;
 use jvms_file::descriptor::{Element, FieldType, Primitive};

@@ -3,14 +3,14 @@
 ghost use Rattle.std.specs.Prelude.{◌≡◌, ◌<◌, ◌^◌, ℕ, IfSome, List, Some, length, option_copied, slice_get};
 ghost use Rattle.std.specs.Option.{option_map};
 ghost use Rattle.jvms_program.specs.declared.key.FieldKey.{FieldKey};
-ghost use Rattle.jvms_machine.specs.declared.value.Value.{Value as Held};
+ghost use Rattle.jvms_machine.specs.declared.value.Value.{Value};
 ghost use Rattle.jvms_machine.specs.State.{instance, instance_fields, keys, object_at, text_reference, class_reference};
 ghost use Rattle.jvms_machine.specs.Heap.{array_of_type, with_element, with_object};
 ghost use Rattle.heap.specs.Objects.{IfThere, Loads, Stores, Suits, class_at, asked, instance_class, array_class, length_of, element_of, units_of, named_by, value_in, with_slot};
-ghost use Rattle.heap.specs.Held.{name_at, shown, IsKept};
+ghost use Rattle.heap.specs.Stored.{name_at, object_of, IsKept};
 
-use crate::held_object::StoredObject;
 use crate::primitive_arrays::PrimitiveArrays;
+use crate::stored_object::StoredObject;
 use jvms_file::insn::{ArrayKind, ArrayType};
 use jvms_machine::value::Value;
 use jvms_program::number::ClassNumber;
@@ -38,13 +38,13 @@ pub struct Heap<'p> {
 impl<'p> Model for Heap<'p> {
     ghost use Rattle.std.specs.Prelude.{map};
     ghost use Rattle.heap.specs.Objects.{Heap as Seen};
-    ghost use Rattle.heap.specs.Held.{shown, AreStored};
+    ghost use Rattle.heap.specs.Stored.{object_of, AreStored};
 
     ghost Value = { Seen };
 
     ghost view = { λ h. record {
       program = h.program.now;
-      objects = map (shown h.program.now) h.objects.items;
+      objects = map (object_of h.program.now) h.objects.items;
       elements = h.elements;
     } };
 
@@ -68,7 +68,7 @@ impl<'p> Heap<'p> {
 
     /// States that each instance has the fields of its class. It does nothing at run time.
     pub fn instances_have_their_fields(&self)
-        ensures { (r : ℕ) (class : List ℕ) (fields : List (FieldKey × Held))
+        ensures { (r : ℕ) (class : List ℕ) (fields : List (FieldKey × Value))
             → object_at self.now.objects r ≡ Some (instance class fields)
             → keys fields ≡ keys (instance_fields self.now.program class) }
     {
@@ -76,7 +76,7 @@ impl<'p> Heap<'p> {
     }
 
     /// Returns the number of objects.
-    #[tactic(auto, using(crate::proofs::HeldLaws::as_many_shown))]
+    #[tactic(auto, using(crate::proofs::StoredLaws::as_many_shown))]
     pub fn count(&self) -> usize
         ensures { result ≡ length self.now.objects }
     {
@@ -92,9 +92,9 @@ impl<'p> Heap<'p> {
 
     /// Returns the object of a reference.
     #[inline(always)]
-    #[tactic(auto, using(crate::proofs::HeldLaws::shown_of, crate::proofs::HeldLaws::kept_of))]
+    #[tactic(auto, using(crate::proofs::StoredLaws::shown_of, crate::proofs::StoredLaws::kept_of))]
     pub(crate) fn object(&self, reference: u32) -> Option<&StoredObject>
-        ensures shown { option_map (λ o. shown self.now.program o.now) result
+        ensures shown { option_map (λ o. object_of self.now.program o.now) result
             ≡ object_at self.now.objects reference }
         ensures kept { IfSome result (λ o. IsKept self.now.program o.now) }
     {
@@ -201,7 +201,7 @@ impl<'p> Heap<'p> {
     }
 
     /// Returns the reference of a text's string.
-    #[tactic(auto, using(crate::proofs::HeldLaws::text_found))]
+    #[tactic(auto, using(crate::proofs::StoredLaws::text_found))]
     pub fn text_reference(&self, units: &[u16]) -> Option<u32>
         ensures { result ≡ text_reference self.now.objects units.now }
     {
@@ -209,7 +209,7 @@ impl<'p> Heap<'p> {
     }
 
     /// Returns the reference of the class object of the class of a name.
-    #[tactic(auto, using(crate::proofs::HeldLaws::class_found))]
+    #[tactic(auto, using(crate::proofs::StoredLaws::class_found))]
     pub fn class_reference(&self, name: &[u16]) -> Option<u32>
         ensures { result ≡ class_reference self.now.objects name.now }
     {

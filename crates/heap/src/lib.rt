@@ -6,7 +6,6 @@ mod arrays;
 mod copying;
 mod first_values;
 mod heap;
-mod held_object;
 pub mod laws;
 mod making;
 mod named_fields;
@@ -15,6 +14,7 @@ mod opening;
 mod primitive_arrays;
 mod saved;
 mod statics;
+mod stored_object;
 mod texts;
 
 pub use heap::Heap;

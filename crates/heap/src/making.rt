@@ -4,11 +4,11 @@ ghost use Rattle.std.specs.Prelude.{◌≡◌, ◌+◌, ◌<◌, ◌^◌, ◌∷
 ghost use Rattle.jvms_machine.specs.State.{array, text, class_object, first_instance};
 ghost use Rattle.jvms_machine.specs.Heap.{first_element};
 ghost use Rattle.heap.specs.Objects.{with_new, with_arrays};
-ghost use Rattle.heap.specs.Held.{name_at, shown, IsKept, IsPlain};
+ghost use Rattle.heap.specs.Stored.{name_at, object_of, IsKept, IsPlain};
 
 use crate::first_values::first_values;
 use crate::heap::Heap;
-use crate::held_object::StoredObject;
+use crate::stored_object::StoredObject;
 use array_elements::{Elements, kind_of_array};
 use jvms_program::number::ClassNumber;
 use program::Program;
@@ -31,7 +31,7 @@ impl Heap<'_> {
         requires kept { IsKept self.old.program plain }
         requires plain { IsPlain plain }
         ensures ok { OnOk result
-            (self.new ≡ with_new (shown self.old.program plain ∷ []) self.old) }
+            (self.new ≡ with_new (object_of self.old.program plain ∷ []) self.old) }
         ensures err { OnErr result (self.new ≡ self.old) }
     {
         self.objects.push(plain)?;

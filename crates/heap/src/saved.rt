@@ -2,12 +2,12 @@
 
 ghost use Rattle.std.specs.Prelude.{◌≡◌, true, IfOk, map};
 ghost use Rattle.std.specs.List.{AllByRecursion, flat_map};
-ghost use Rattle.heap.specs.Held.{shown, AllAlike, IsKept};
+ghost use Rattle.heap.specs.Stored.{object_of, AllAlike, IsKept};
 
 use crate::copying::{copied, push_copies};
 use crate::heap::Heap;
-use crate::held_object::StoredObject;
 use crate::primitive_arrays::PrimitiveArrays;
+use crate::stored_object::StoredObject;
 use program::Program;
 use shared_data::items::Items;
 use shared_data::shared::Shared;
@@ -37,13 +37,13 @@ impl<'p> Model for SavedHeap<'p> {
     ghost use Rattle.std.specs.Prelude.{map};
     ghost use Rattle.std.specs.List.{flat_map};
     ghost use Rattle.heap.specs.Objects.{Heap as Seen};
-    ghost use Rattle.heap.specs.Held.{shown, AreStored};
+    ghost use Rattle.heap.specs.Stored.{object_of, AreStored};
 
     ghost Value = { Seen };
 
     ghost view = { λ h. record {
       program = h.program.now;
-      objects = map (shown h.program.now) (flat_map (λ g. g) h.groups.items);
+      objects = map (object_of h.program.now) (flat_map (λ g. g) h.groups.items);
       elements = h.elements;
     } };
 
@@ -73,7 +73,7 @@ fn saved_group(
 ) -> Result<Group, AllocError>
     requires { AllByRecursion (IsKept program.now) objects.now }
     ensures shown { IfOk result
-        (λ group. map (shown program.now) group ≡ map (shown program.now) objects.now) }
+        (λ group. map (object_of program.now) group ≡ map (object_of program.now) objects.now) }
     ensures kept { IfOk result (λ group. AllByRecursion (IsKept program.now) group) }
 {
     if let Some(group) = before {
@@ -94,8 +94,9 @@ fn saved_groups(
     before: &[Group],
 ) -> Result<Vec<Group>, AllocError>
     requires { AllByRecursion (IsKept program.now) objects.now }
-    ensures shown { IfOk result (λ groups. map (shown program.now) (flat_map (λ g. g) groups.items)
-        ≡ map (shown program.now) objects.now) }
+    ensures shown { IfOk result
+        (λ groups. map (object_of program.now) (flat_map (λ g. g) groups.items)
+        ≡ map (object_of program.now) objects.now) }
     ensures kept { IfOk result
         (λ groups. AllByRecursion (IsKept program.now) (flat_map (λ g. g) groups.items)) }
 {
@@ -116,8 +117,8 @@ fn restored(
     groups: &[Group],
 ) -> Result<Vec<StoredObject>, AllocError>
     requires { AllByRecursion (IsKept program.now) (flat_map (λ g. g) groups.now) }
-    ensures shown { IfOk result (λ objects. map (shown program.now) objects.items
-        ≡ map (shown program.now) (flat_map (λ g. g) groups.now)) }
+    ensures shown { IfOk result (λ objects. map (object_of program.now) objects.items
+        ≡ map (object_of program.now) (flat_map (λ g. g) groups.now)) }
     ensures kept { IfOk result (λ objects. AllByRecursion (IsKept program.now) objects.items) }
 {
     let mut objects = Vec::with_capacity(alloc, groups.len().saturating_mul(GROUP_SIZE))?;

@@ -4,18 +4,18 @@ ghost use Rattle.std.specs.Prelude.{◌≡◌, ◌+◌, ◌-◌, ◌<◌, ◌^�
 ghost use Rattle.std.specs.Option.{option_and_then, option_map};
 ghost use Rattle.jvms_program.specs.declared.program.Class.{Class};
 ghost use Rattle.jvms_machine.specs.State.{text};
-ghost use Rattle.heap.specs.Held.{shown};
+ghost use Rattle.heap.specs.Stored.{object_of};
 ghost use Rattle.heap.specs.Objects.{Heap as Seen, units_of, with_new};
 
 use crate::heap::Heap;
-use crate::held_object::StoredObject;
+use crate::stored_object::StoredObject;
 use shared_data::shared::Text;
 use std::alloc::AllocError;
 
 /// Returns the units of the last object, if it is a string.
 fn last_units(objects: &[StoredObject]) -> Option<&Text>
     ensures { (program : List Class) → option_map (λ units. units.now) result ≡ option_and_then
-        (λ o. units_of (shown program o)) (slice_get objects.now (length objects.now - 1)) }
+        (λ o. units_of (object_of program o)) (slice_get objects.now (length objects.now - 1)) }
 {
     objects.last()?.units()
 }

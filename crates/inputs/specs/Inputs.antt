@@ -10,7 +10,7 @@ use Rattle.jasmin.specs.Reading.{source_of}
 use Rattle.jasmin_reader.specs.declared.fault.SourceFault.TheVariants as source_fault
 use Rattle.assembly.specs.declared.fault.AsmFault.{AsmFault}
 use Rattle.assembly.specs.declared.fault.AsmFault.TheVariants as asm_fault
-use Rattle.assembly.specs.Assembled.{assembled}
+use Rattle.assembly.specs.Assembled.{class_file_of}
 use Rattle.inputs.specs.declared.input.Input.{Input}
 use Rattle.inputs.specs.declared.input.Input.TheVariants as input
 use Rattle.inputs.specs.declared.fault.InputFault.{InputFault}
@@ -33,7 +33,7 @@ class_of_bytes bytes = because not_spelled (read bytes)
 unfoldable pub class_of_text : List ℕ → Result ClassFile NoClass
 class_of_text text = do
   source ← because flawed (source_of text)
-  because not_assembled (assembled source)
+  because not_assembled (class_file_of source)
 
 abbrev pub class_in : Input → Result ClassFile NoClass
 class_in (input.ClassFile bytes) = class_of_bytes bytes.items

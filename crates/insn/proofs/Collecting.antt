@@ -11,7 +11,7 @@ use Rattle.jvms_file.specs.declared.insn.Insn.TheVariants as insn
 use Rattle.jvms_file.specs.declared.insn.SwitchCase.{SwitchCase}
 use Rattle.jvms_file.specs.declared.insn.TableSwitch.{TableSwitch}
 use Rattle.jvms_file.specs.declared.insn.LookupSwitch.{LookupSwitch}
-use Rattle.jvms_file.specs.Results.{◌>>=◌, present, collected}
+use Rattle.jvms_file.specs.Results.{◌>>=◌, present, results_of}
 use Rattle.jvms_file.specs.Reading.{Fails}
 use Rattle.jvms_file.specs.Code.{place_of, places_of, case_places, table_places, lookup_places, with_places}
 use Rattle.insn.specs.Places.{place_or_fault, case_or_fault, table_or_fault, lookup_or_fault, insn_or_fault}
@@ -29,21 +29,21 @@ items_start (Ok xs) = refl
 items_start (Err f) = refl
 
 pub items_go_on : {A X : Type 0} (f : A → Result X ClassFault) (front : List X) (all : List A) (a : A) (rest : List A) (x : X) (total : Result (List X) ClassFault) → all ≡ a ∷ rest → f a ≡ Ok x
-    → with_items front (collected f all) ≡ total → with_items (front ++ x ∷ []) (collected f rest) ≡ total
+    → with_items front (results_of f all) ≡ total → with_items (front ++ x ∷ []) (results_of f rest) ≡ total
 items_go_on f front all a rest x total p h so_far =
-    let one : with_items front (collected f all) ≡ with_items (front ++ x ∷ []) (collected f rest) = rw (p, h) (regroup front x (collected f rest)) in
+    let one : with_items front (results_of f all) ≡ with_items (front ++ x ∷ []) (results_of f rest) = rw (p, h) (regroup front x (results_of f rest)) in
     sym one ∙ so_far
 
 pub items_stop : {A X : Type 0} (e : ReadError) (f : A → Result X ClassFault) (front : List X) (all : List A) (a : A) (rest : List A) (total : Result (List X) ClassFault) → all ≡ a ∷ rest → Fails e (f a)
-    → with_items front (collected f all) ≡ total → Fails e total
+    → with_items front (results_of f all) ≡ total → Fails e total
 items_stop error.Memory f front all a rest total p h so_far = tt
 items_stop (error.Fault cut) f front all a rest total p h so_far =
-    let one : with_items front (collected f all) ≡ Err cut = rw (p, h) refl in
+    let one : with_items front (results_of f all) ≡ Err cut = rw (p, h) refl in
     sym so_far ∙ one
 
-pub items_done : {A X : Type 0} (f : A → Result X ClassFault) (front : List X) (all : List A) (total : Result (List X) ClassFault) → all ≡ [] → with_items front (collected f all) ≡ total → total ≡ Ok front
+pub items_done : {A X : Type 0} (f : A → Result X ClassFault) (front : List X) (all : List A) (total : Result (List X) ClassFault) → all ≡ [] → with_items front (results_of f all) ≡ total → total ≡ Ok front
 items_done {A} {X} f front all total p so_far =
-    let one : with_items front (collected f all) ≡ Ok front = rw p (ap (λ (ys : List X). Ok ys) (append-nil front)) in
+    let one : with_items front (results_of f all) ≡ Ok front = rw p (ap (λ (ys : List X). Ok ys) (append-nil front)) in
     sym so_far ∙ one
 
 pub drop_next : {A : Type 0} (xs : List A) (i : ℕ) (d : A) → i < length xs → drop i xs ≡ get_or xs i d ∷ drop (i + 1) xs
@@ -68,11 +68,11 @@ one_found : {X Y : Type 0} (cut : ClassFault) (o : Option X) (f : X → Y) → (
 one_found cut None f = refl
 one_found cut (Some x) f = refl
 
-places_found : (pcs : List ℕ) (cut : ClassFault) (ts : List ℕ) → collected (place_or_fault pcs cut) ts ≡ present (places_of pcs ts) cut
+places_found : (pcs : List ℕ) (cut : ClassFault) (ts : List ℕ) → results_of (place_or_fault pcs cut) ts ≡ present (places_of pcs ts) cut
 places_found pcs cut [] = refl
 places_found pcs cut (t ∷ ts) = rw (places_found pcs cut ts) (two_found cut (place_of pcs t) (places_of pcs ts) (λ p ps. p ∷ ps))
 
-cases_found : (pcs : List ℕ) (cut : ClassFault) (cs : List SwitchCase) → collected (case_or_fault pcs cut) cs ≡ present (case_places pcs cs) cut
+cases_found : (pcs : List ℕ) (cut : ClassFault) (cs : List SwitchCase) → results_of (case_or_fault pcs cut) cs ≡ present (case_places pcs cs) cut
 cases_found pcs cut [] = refl
 cases_found pcs cut (c ∷ cs) =
     let made : ℕ → SwitchCase = λ p. record { value = c.value; target = p } in

@@ -9,7 +9,7 @@ use Rattle.jvms_file.specs.declared.insn.Insn.{Insn}
 use Rattle.jvms_file.specs.Results.{◌>>=◌}
 use Rattle.jvms_file.specs.Reading.{Fails}
 use Rattle.jvms_file.specs.Instructions.{insn_at}
-use Rattle.jvms_file.specs.Code.{InsnAtByte, insns_at_bytes_from, placed, starts, resolved, insns_of}
+use Rattle.jvms_file.specs.Code.{InsnAtByte, insns_at_bytes_from, insns_at_bytes, starts, insns_with_places, insns_of}
 use Rattle.insn.specs.declared.located.InsnAt.{InsnAt}
 use Rattle.insn.specs.Locating.{placed_of, all_placed}
 use Rattle.insn.specs.Places.{IsStarts}
@@ -21,14 +21,14 @@ pub record IsReading (pool : List Constant) (major : ℕ) (bytes : List ℕ) (fr
   pub most : ℕ
   pub enough : length rest ≤ most
   pub within : length rest ≤ length bytes
-  pub reads : with_items front (insns_at_bytes_from most pool major (length bytes - length rest) rest) ≡ placed pool major bytes
+  pub reads : with_items front (insns_at_bytes_from most pool major (length bytes - length rest) rest) ≡ insns_at_bytes pool major bytes
 
 pub reading_starts : (pool : List Constant) (major : ℕ) (bytes : List ℕ) → IsReading pool major bytes [] bytes
 reading_starts pool major bytes = record {
   most = length bytes;
   enough = omega arith;
   within = omega arith;
-  reads = let z : length bytes - length bytes ≡ 0 = omega arith in rw z (same (placed pool major bytes));
+  reads = let z : length bytes - length bytes ≡ 0 = omega arith in rw z (same (insns_at_bytes pool major bytes));
 }
   where
     same : (read : Result (List InsnAtByte) ClassFault) → with_items [] read ≡ read
@@ -46,7 +46,7 @@ pub reading_goes_on : (pool : List Constant) (major : ℕ) (bytes : List ℕ) (f
     → IsReading pool major bytes front rest → IsReading pool major bytes (front ++ record { pc = length bytes - length rest; insn = i } ∷ []) behind
 reading_goes_on pool major bytes front rest i behind lt h s = by_most s.most s.enough s.reads
   where
-    by_most : (most : ℕ) → length rest ≤ most → with_items front (insns_at_bytes_from most pool major (length bytes - length rest) rest) ≡ placed pool major bytes → IsReading pool major bytes (front ++ record { pc = length bytes - length rest; insn = i } ∷ []) behind
+    by_most : (most : ℕ) → length rest ≤ most → with_items front (insns_at_bytes_from most pool major (length bytes - length rest) rest) ≡ insns_at_bytes pool major bytes → IsReading pool major bytes (front ++ record { pc = length bytes - length rest; insn = i } ∷ []) behind
     by_most zero le reads = absurd (omega arith)
     by_most (suc most) le reads =
         let below : length behind < length rest = insn_below pool major (length bytes - length rest) rest i behind h in
@@ -57,7 +57,7 @@ reading_goes_on pool major bytes front rest i behind lt h s = by_most s.most s.e
         record { most = most; enough = omega arith; within = omega arith; reads = sym one ∙ reads }
 
 pub reading_stops : (e : ReadError) (pool : List Constant) (major : ℕ) (bytes : List ℕ) (front : List InsnAtByte) (rest : List ℕ) → 0 < length rest → Fails e (insn_at pool major (length bytes - length rest) rest)
-    → IsReading pool major bytes front rest → Fails e (placed pool major bytes)
+    → IsReading pool major bytes front rest → Fails e (insns_at_bytes pool major bytes)
 unfolding insns_at_bytes_from
 reading_stops error.Memory pool major bytes front rest lt h s = tt
 reading_stops (error.Fault f) pool major bytes front rest lt h s = sym s.reads ∙ fails s.most rest lt s.enough h
@@ -67,7 +67,7 @@ reading_stops (error.Fault f) pool major bytes front rest lt h s = sym s.reads �
     fails (suc most) [] lt le h = absurd (omega arith)
     fails (suc most) (b ∷ left) lt le h = rw h refl
 
-pub reading_ends : (pool : List Constant) (major : ℕ) (bytes : List ℕ) (front : List InsnAtByte) (rest : List ℕ) → length rest ≡ 0 → IsReading pool major bytes front rest → placed pool major bytes ≡ Ok front
+pub reading_ends : (pool : List Constant) (major : ℕ) (bytes : List ℕ) (front : List InsnAtByte) (rest : List ℕ) → length rest ≡ 0 → IsReading pool major bytes front rest → insns_at_bytes pool major bytes ≡ Ok front
 unfolding insns_at_bytes_from
 reading_ends pool major bytes front rest none s = sym s.reads ∙ ended s.most rest none
   where
@@ -124,9 +124,9 @@ rise zero pool major pc (b ∷ bytes) = none_from pc (length (b ∷ bytes))
 rise (suc most) pool major pc (b ∷ bytes) = one_read most pool major pc (b ∷ bytes) (λ next rest. rise most pool major next rest) (insn_at pool major pc (b ∷ bytes)) refl
 
 -- The bytes at which a method's instructions start rise, and there are at most 65,535.
-pub placed_rise : (pool : List Constant) (major : ℕ) (bytes : List ℕ) (is : List InsnAtByte) → length bytes ≤ 65535 → placed pool major bytes ≡ Ok is → IsStarts (starts is)
+pub placed_rise : (pool : List Constant) (major : ℕ) (bytes : List ℕ) (is : List InsnAtByte) → length bytes ≤ 65535 → insns_at_bytes pool major bytes ≡ Ok is → IsStarts (starts is)
 placed_rise pool major bytes is le h =
-    let k : RisesFrom 0 (length bytes) (placed pool major bytes) = rise (length bytes) pool major 0 bytes in
+    let k : RisesFrom 0 (length bytes) (insns_at_bytes pool major bytes) = rise (length bytes) pool major 0 bytes in
     let s : IsFrom 0 (length bytes) (starts is) = subst (RisesFrom 0 (length bytes)) h k in
     record { rising = s.rising; few = omega (arith, s.few) }
 
@@ -139,7 +139,7 @@ pub one_pushed : (ls : List InsnAt) (l : InsnAt) → all_placed (ls ++ l ∷ [])
 one_pushed ls l = map_push placed_of ls l
 
 -- A fault of the second pass is one of the whole.
-pub places_stop : (e : ReadError) (pool : List Constant) (major : ℕ) (bytes : List ℕ) (is : List InsnAtByte) → placed pool major bytes ≡ Ok is → Fails e (resolved (starts is) is) → Fails e (insns_of pool major bytes)
+pub places_stop : (e : ReadError) (pool : List Constant) (major : ℕ) (bytes : List ℕ) (is : List InsnAtByte) → insns_at_bytes pool major bytes ≡ Ok is → Fails e (insns_with_places (starts is) is) → Fails e (insns_of pool major bytes)
 unfolding insns_of
 places_stop error.Memory pool major bytes is h r = tt
 places_stop (error.Fault f) pool major bytes is h r = rw (h, r) refl

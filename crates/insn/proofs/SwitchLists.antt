@@ -6,7 +6,7 @@ use Rattle.jvms_file.specs.declared.fault.ClassFault.{ClassFault}
 use Rattle.jvms_file.specs.declared.fault.ReadError.{ReadError}
 use Rattle.jvms_file.specs.declared.fault.ReadError.TheVariants as error
 use Rattle.jvms_file.specs.declared.insn.SwitchCase.{SwitchCase}
-use Rattle.jvms_file.specs.Results.{◌>>=◌, want, part_list_onto, counted}
+use Rattle.jvms_file.specs.Results.{◌>>=◌, want, part_list_onto, part_list}
 use Rattle.jvms_file.specs.Reading.{Fails}
 use Rattle.jvms_file.specs.Bytes.{u4_at, signed}
 use Rattle.jvms_file.specs.Instructions.{targets_at, cases_at, target_of, is_above}
@@ -59,7 +59,7 @@ front_of_none (Ok x) = refl
 front_of_none (Err f) = refl
 
 -- As many targets as a count says, one after another.
-pub counted_targets : (cut : ClassFault) (pc count : ℕ) (bytes : List ℕ) → counted (target_at cut pc) count bytes ≡ targets_at cut pc count bytes
+pub counted_targets : (cut : ClassFault) (pc count : ℕ) (bytes : List ℕ) → part_list (target_at cut pc) count bytes ≡ targets_at cut pc count bytes
 counted_targets cut pc count bytes = counted_behind cut pc count [] bytes ∙ front_of_none (targets_at cut pc count bytes)
 
 -- ---- Cases.

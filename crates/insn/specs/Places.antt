@@ -7,7 +7,7 @@ use Rattle.jvms_file.specs.declared.insn.Insn.TheVariants as insn
 use Rattle.jvms_file.specs.declared.insn.SwitchCase.{SwitchCase}
 use Rattle.jvms_file.specs.declared.insn.TableSwitch.{TableSwitch}
 use Rattle.jvms_file.specs.declared.insn.LookupSwitch.{LookupSwitch}
-use Rattle.jvms_file.specs.Results.{◌>>=◌, present, collected}
+use Rattle.jvms_file.specs.Results.{◌>>=◌, present, results_of}
 use Rattle.jvms_file.specs.Code.{place_of}
 
 -- The starts of instructions: at most 65,535, each above the one before it (JVMS 4.7.3).
@@ -26,13 +26,13 @@ case_or_fault pcs cut c = do
 abbrev pub table_or_fault : List ℕ → ClassFault → TableSwitch → Result TableSwitch ClassFault
 table_or_fault pcs cut s = do
   default ← place_or_fault pcs cut s.default
-  targets ← collected (place_or_fault pcs cut) s.targets
+  targets ← results_of (place_or_fault pcs cut) s.targets
   Ok (record { default = default; low = s.low; targets = targets })
 
 abbrev pub lookup_or_fault : List ℕ → ClassFault → LookupSwitch → Result LookupSwitch ClassFault
 lookup_or_fault pcs cut s = do
   default ← place_or_fault pcs cut s.default
-  cases ← collected (case_or_fault pcs cut) s.cases
+  cases ← results_of (case_or_fault pcs cut) s.cases
   Ok (record { default = default; cases = cases })
 
 abbrev pub insn_or_fault : List ℕ → ClassFault → Insn → Result Insn ClassFault

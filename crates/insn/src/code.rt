@@ -4,7 +4,7 @@
 ghost use Rattle.std.specs.Prelude.{◌≡◌, ◌≤◌, ◌<◌, length, map, IfOk, Err};
 ghost use Rattle.jvms_file.specs.declared.fault.ClassFault.TheVariants.{CodeLength};
 ghost use Rattle.jvms_file.specs.declared.fault.ReadError.TheVariants.{Fault};
-ghost use Rattle.jvms_file.specs.Code.{placed, starts, resolved, insns_of};
+ghost use Rattle.jvms_file.specs.Code.{insns_at_bytes, starts, insns_with_places, insns_of};
 ghost use Rattle.jvms_file.specs.Reading.{Gives};
 ghost use Rattle.insn.specs.Places.{IsStarts};
 ghost use Rattle.insn.specs.Locating.{placed_of, all_placed, resolved_one};
@@ -29,14 +29,14 @@ pub struct Decoded {
 }
 
 /// Reads the instructions of bytes, each with its byte.
-fn placed(
+fn insns_at_bytes(
     alloc: Global,
     pool: &ScannedPool,
     major: u16,
     bytes: &[u8],
 ) -> Result<Vec<InsnAt>, ReadError>
     requires { length bytes.now ≤ 65535 }
-    ensures { Gives (λ v. all_placed v.items) result (placed pool.now major bytes.now) }
+    ensures { Gives (λ v. all_placed v.items) result (insns_at_bytes pool.now major bytes.now) }
 {
     let mut found = Vec::new(alloc);
     let mut rest = bytes;
@@ -84,8 +84,12 @@ fn resolved_insn(alloc: Global, starts: &Starts, one: &InsnAt) -> Result<Insn, R
 }
 
 /// Returns the instructions with places for targets. The list is kept, so it gets no more capacity than it needs.
-fn resolved(alloc: Global, starts: &Starts, located: &[InsnAt]) -> Result<Items<Insn>, ReadError>
-    ensures { Gives (λ x. x) result (resolved starts.now (all_placed located.now)) }
+fn insns_with_places(
+    alloc: Global,
+    starts: &Starts,
+    located: &[InsnAt],
+) -> Result<Items<Insn>, ReadError>
+    ensures { Gives (λ x. x) result (insns_with_places starts.now (all_placed located.now)) }
 {
     let mut insns = Items::with_capacity(alloc, located.len())?;
     for one in located {
@@ -114,8 +118,8 @@ pub fn decode(
     if bytes.len() > MOST_CODE {
         return Err(ReadError::Fault(ClassFault::CodeLength));
     }
-    let located = placed(alloc, pool, major, bytes)?;
+    let located = insns_at_bytes(alloc, pool, major, bytes)?;
     let starts = starts_of(alloc, &located)?;
-    let insns = resolved(alloc, &starts, &located)?;
+    let insns = insns_with_places(alloc, &starts, &located)?;
     Ok(Decoded { starts, insns })
 }

@@ -2,7 +2,7 @@
 
 ghost use Rattle.std.specs.Prelude.{◌≡◌};
 ghost use Rattle.std.specs.Option.{option_copied, option_map, option_and_then};
-ghost use Rattle.jvms_file.specs.Instructions.{passes, is_field, field_insn, method_numbers, invoked, is_invocable, interface_count, interface_operands, after_invoke, invoke_insn, is_usable_class, names_usable, class_insn};
+ghost use Rattle.jvms_file.specs.Instructions.{passes, is_field, field_insn, method_numbers, invoked_names, is_invocable, interface_count, interface_operands, after_invoke, invoke_insn, is_usable_class, names_usable, class_insn};
 ghost use Rattle.jvms_file.specs.declared.insn.Invoke.TheVariants.{Interface};
 ghost use Rattle.jvms_file.specs.Reading.{Gives};
 
@@ -105,8 +105,8 @@ fn method_numbers(how: Invoke, found: Option<&Constant>) -> Option<(u16, u16)>
 }
 
 /// Returns the name and the descriptor of the method that an instruction calls.
-fn invoked(pool: &Pool, how: Invoke, number: u16) -> Option<(&[u16], &[u16])>
-    ensures { option_map (λ x. (x.0.now, x.1.now)) result ≡ invoked pool.now how number }
+fn invoked_names(pool: &Pool, how: Invoke, number: u16) -> Option<(&[u16], &[u16])>
+    ensures { option_map (λ x. (x.0.now, x.1.now)) result ≡ invoked_names pool.now how number }
 {
     match method_numbers(how, pool.entry(number)) {
         Some((_, name_and_type)) => pool.name_and_type(name_and_type),
@@ -126,7 +126,7 @@ fn is_invocable(how: Invoke, method: Option<(&[u16], &[u16])>) -> bool
 
 /// Returns the units of the arguments of an interface's method, including the object.
 fn interface_units(pool: &ScannedPool, number: u16) -> Option<usize>
-    ensures { result ≡ interface_count (invoked pool.now Interface number) }
+    ensures { result ≡ interface_count (invoked_names pool.now Interface number) }
 {
     let (_, name_and_type) = method_numbers(Invoke::Interface, pool.pool().entry(number))?;
     let forms = pool.descriptor_forms(name_and_type)?;
@@ -162,7 +162,7 @@ fn after_invoke<'a>(
     bytes: &'a [u8],
 ) -> Result<&'a [u8], ReadError>
     ensures { Gives (λ x. x.now) result
-        (after_invoke cut how (invoked pool.now how number) bytes.now) }
+        (after_invoke cut how (invoked_names pool.now how number) bytes.now) }
 {
     match how {
         Invoke::Interface => interface_operands(cut, interface_units(pool, number), bytes),
@@ -181,7 +181,10 @@ pub(crate) fn invoke<'a>(
     ensures { Gives (λ x. (x.0, x.1.now)) result (invoke_insn cut pool.now how bytes.now) }
 {
     let (number, rest) = u2_at(cut, bytes)?;
-    want(is_invocable(how, invoked(pool.pool(), how, number)), cut)?;
+    want(
+        is_invocable(how, invoked_names(pool.pool(), how, number)),
+        cut,
+    )?;
     let behind = after_invoke(cut, pool, how, number, rest)?;
     Ok((Insn::Invoke(how, number), behind))
 }

@@ -2,7 +2,7 @@
 //! starts.
 
 ghost use Rattle.std.specs.Prelude.{◌≡◌, ◌+◌, ◌≤◌, IfOk, slice_set, suc, if◌then◌else◌};
-ghost use Rattle.jvms_file.specs.Code.{is_switch, zeroed, with_zero_pads, layout_of};
+ghost use Rattle.jvms_file.specs.Code.{is_switch, with_zeros, with_zero_pads, layout_of};
 ghost use Rattle.jvms_file.specs.Instructions.{pad_length};
 
 use crate::starts::Starts;
@@ -22,10 +22,10 @@ fn set_zero(bytes: &mut [u8], place: usize)
 }
 
 /// Sets `count` bytes from a place on to 0.
-#[tactic(auto, unfolding(jvms_file::specs::Code::zeroed))]
+#[tactic(auto, unfolding(jvms_file::specs::Code::with_zeros))]
 fn zero(bytes: &mut [u8], count: usize, place: usize)
     requires { place + count ≤ usize.MAX }
-    ensures { bytes.new ≡ zeroed count place bytes.old }
+    ensures { bytes.new ≡ with_zeros count place bytes.old }
 {
     let mut left = count;
     let mut at = place;
@@ -46,7 +46,8 @@ fn is_switch(insn: &Insn) -> bool
 /// Sets the pads of the instruction that starts at byte `pc` to 0, if it has any.
 fn zero_pads_of(bytes: &mut [u8], pc: u32, insn: &Insn)
     ensures { bytes.new
-        ≡ (if is_switch insn.now then zeroed (pad_length pc) (suc pc) bytes.old else bytes.old) }
+        ≡ (if is_switch insn.now then with_zeros (pad_length pc) (suc pc) bytes.old
+        else bytes.old) }
 {
     if is_switch(insn) {
         let start = pc as usize;

@@ -1,7 +1,7 @@
 //! Turns targets into places.
 
 ghost use Rattle.std.specs.Prelude.{◌≡◌};
-ghost use Rattle.jvms_file.specs.Results.{collected};
+ghost use Rattle.jvms_file.specs.Results.{results_of};
 ghost use Rattle.jvms_file.specs.Reading.{Gives};
 ghost use Rattle.insn.specs.Places.{place_or_fault, case_or_fault, table_or_fault, lookup_or_fault, insn_or_fault};
 
@@ -44,7 +44,7 @@ fn places(
     fault: ClassFault,
     targets: &[u32],
 ) -> Result<Items<u32>, ReadError>
-    ensures { Gives (λ x. x) result (collected (place_or_fault starts.now fault) targets.now) }
+    ensures { Gives (λ x. x) result (results_of (place_or_fault starts.now fault) targets.now) }
 {
     let mut found = Items::with_capacity(alloc, targets.len())?;
     for target in targets {
@@ -61,7 +61,7 @@ fn cases(
     fault: ClassFault,
     switch_cases: &[SwitchCase],
 ) -> Result<Items<SwitchCase>, ReadError>
-    ensures { Gives (λ x. x) result (collected (case_or_fault starts.now fault) switch_cases.now) }
+    ensures { Gives (λ x. x) result (results_of (case_or_fault starts.now fault) switch_cases.now) }
 {
     let mut found = Items::with_capacity(alloc, switch_cases.len())?;
     for switch_case in switch_cases {

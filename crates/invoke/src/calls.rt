@@ -6,7 +6,7 @@ ghost use Rattle.jvms_program.specs.declared.program.Body.{Body as Code};
 ghost use Rattle.jvms_machine.specs.declared.action.Lock.{Lock as Locked};
 ghost use Rattle.jvms_machine.specs.Decisions.{TurnDecision};
 ghost use Rattle.jvms_machine.specs.Calls.{enter_decision, called_decision, entry_decision, first_call, first_call_decision};
-ghost use Rattle.machine_parts.specs.Decided.{seen};
+ghost use Rattle.machine_parts.specs.Decided.{decision_value};
 ghost use Rattle.invoke.specs.Calling.{made_of};
 
 pub(crate) mod fast;
@@ -104,13 +104,13 @@ fn first_call<'p>(
     method: &'p Method,
     given: Given,
 ) -> Decided<'p>
-    ensures { seen result ≡ first_call parts.now.program parts.now.limits
+    ensures { decision_value result ≡ first_call parts.now.program parts.now.limits
         parts.now.state t thread.now given.receiver given.arguments n method.now }
 {
     match called_decision(parts, t, thread, n, method, given) {
         Called::Stops(decision) => decision,
         Called::IsNative => parts.throws(thread, Thrown::UnsatisfiedLinkError),
-        Called::Enters(code, lock) => Decision::Makes(Action::Enters {
+        Called::Enters(code, lock) => Decision::Applies(Action::Enters {
             method: n,
             code,
             lock,
@@ -125,7 +125,7 @@ fn entry_decision<'p>(
     thread: &Thread,
     method: &'p Method,
 ) -> Decided<'p>
-    ensures { seen result ≡ entry_decision parts.now.program parts.now.limits
+    ensures { decision_value result ≡ entry_decision parts.now.program parts.now.limits
         parts.now.start parts.now.state t thread.now (Some method.now) }
 {
     if is_outside_method(method.method_type.get()) {
@@ -143,7 +143,7 @@ fn entry_decision<'p>(
 
 /// Decides the first call of a thread.
 pub fn first_call_decision<'p>(parts: &Parts<'p>, t: ThreadId, thread: &Thread) -> Decided<'p>
-    ensures { seen result ≡ first_call_decision parts.now.program
+    ensures { decision_value result ≡ first_call_decision parts.now.program
         parts.now.limits parts.now.start parts.now.state t thread.now }
 {
     if t != 0 {

@@ -4,7 +4,7 @@ ghost use Rattle.std.specs.Prelude.{◌≡◌, Some, slice_get};
 ghost use Rattle.jvms_machine.specs.Decisions.{TurnDecision};
 ghost use Rattle.jvms_machine.specs.Initialisation.{initializer_of, asked_superclass, initializer_decision, superclass_decision, initialisation_decision};
 ghost use Rattle.machine_parts.specs.Before.{first_or};
-ghost use Rattle.machine_parts.specs.Decided.{seen};
+ghost use Rattle.machine_parts.specs.Decided.{decision_value};
 
 use classes::declared_number;
 use jvms_machine::action::{Action, Decision};
@@ -48,7 +48,7 @@ fn initializer_call<'p>(
     class: ClassNumber,
     number: usize,
 ) -> Decided<'p>
-    ensures { seen result ≡ initializer_decision parts.now.limits
+    ensures { decision_value result ≡ initializer_decision parts.now.limits
         parts.now.state thread.now c.now class (Some number) }
 {
     let Some(method) = c.methods.as_slice().get(number) else {
@@ -60,7 +60,7 @@ fn initializer_call<'p>(
     if parts.limits.frames as usize <= thread.height() {
         return parts.throws(thread, Thrown::StackOverflowError);
     }
-    Decision::Makes(Action::Initialises {
+    Decision::Applies(Action::Initialises {
         method: MethodNumber {
             class,
             method: number,
@@ -77,11 +77,11 @@ fn initializer_decision<'p>(
     c: &'p Class,
     class: ClassNumber,
 ) -> Decided<'p>
-    ensures { seen result ≡ initializer_decision parts.now.limits
+    ensures { decision_value result ≡ initializer_decision parts.now.limits
         parts.now.state thread.now c.now class (initializer_of c.now) }
 {
     match initializer_of(c) {
-        None => Decision::Makes(Action::Finishes { class }),
+        None => Decision::Applies(Action::Finishes { class }),
         Some(number) => initializer_call(parts, thread, c, class, number),
     }
 }
@@ -93,8 +93,9 @@ fn superclass_decision<'p>(
     thread: &Thread,
     superclass: Option<ClassNumber>,
 ) -> Option<Decided<'p>>
-    ensures { (go_on : TurnDecision) → first_or go_on result ≡ superclass_decision parts.now.program
-        parts.now.limits parts.now.state t thread.now superclass go_on }
+    ensures { (continued : TurnDecision) → first_or continued result
+        ≡ superclass_decision parts.now.program parts.now.limits parts.now.state t thread.now
+        superclass continued }
 {
     match superclass {
         None => None,
@@ -110,14 +111,14 @@ pub fn initialisation_decision<'p>(
     class: ClassNumber,
     called: bool,
 ) -> Decided<'p>
-    ensures { seen result ≡ initialisation_decision parts.now.program parts.now.limits
+    ensures { decision_value result ≡ initialisation_decision parts.now.program parts.now.limits
         parts.now.state t thread.now class called (slice_get parts.now.program class) }
 {
     let Some(c) = parts.program().class(class) else {
         return never_seen();
     };
     if called {
-        return Decision::Makes(Action::Finishes { class });
+        return Decision::Applies(Action::Finishes { class });
     }
     let superclass = asked_superclass(parts.program(), c);
     match superclass_decision(parts, t, thread, superclass) {

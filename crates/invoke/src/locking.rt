@@ -4,7 +4,7 @@ ghost use Rattle.std.specs.Prelude.{◌≡◌, ◌+◌, ◌<◌, ◌^◌};
 ghost use Rattle.jvms_machine.specs.declared.value.Value.TheVariants as value;
 ghost use Rattle.jvms_machine.specs.Arrays.{with_object_of};
 ghost use Rattle.jvms_machine.specs.Locking.{enter_object, exit_object, monitor_enter_decision, monitor_exit_decision};
-ghost use Rattle.machine_parts.specs.Decided.{seen};
+ghost use Rattle.machine_parts.specs.Decided.{decision_value};
 
 pub(crate) mod fast;
 
@@ -25,7 +25,7 @@ fn enter_object<'p>(
     reference: u32,
 ) -> Decided<'p>
     requires { frame.now.activation.place + 1 < 2 ^ 64 }
-    ensures { seen result
+    ensures { decision_value result
         ≡ with_object_of parts.now.limits parts.now.state thread.now (value.Reference reference)
         (enter_object parts.now.limits parts.now.state t thread.now frame.now) }
 {
@@ -47,7 +47,7 @@ fn exit_object<'p>(
     reference: u32,
 ) -> Decided<'p>
     requires { frame.now.activation.place + 1 < 2 ^ 64 }
-    ensures { seen result
+    ensures { decision_value result
         ≡ with_object_of parts.now.limits parts.now.state thread.now (value.Reference reference)
         (exit_object parts.now.limits parts.now.state t thread.now frame.now) }
 {
@@ -69,7 +69,7 @@ pub fn monitor_enter_decision<'p>(
     frame: &Frame,
 ) -> Decided<'p>
     requires { frame.now.activation.place + 1 < 2 ^ 64 }
-    ensures { seen result
+    ensures { decision_value result
         ≡ monitor_enter_decision parts.now.limits parts.now.state t thread.now frame.now }
 {
     if !has_depth(frame, 1, 0) {
@@ -92,7 +92,7 @@ pub fn monitor_exit_decision<'p>(
     frame: &Frame,
 ) -> Decided<'p>
     requires { frame.now.activation.place + 1 < 2 ^ 64 }
-    ensures { seen result
+    ensures { decision_value result
         ≡ monitor_exit_decision parts.now.limits parts.now.state t thread.now frame.now }
 {
     if !has_depth(frame, 1, 0) {

@@ -5,7 +5,7 @@ ghost use Rattle.std.specs.Prelude.{◌≡◌, ◌+◌, ◌<◌, ◌^◌, slice_
 ghost use Rattle.jvms_machine.specs.Natives.{prints, object_printed, value_printed, print_decision, native_of_class};
 ghost use Rattle.jvms_machine.specs.Places.{whole_top};
 ghost use Rattle.jvms_machine.specs.State.{object_at};
-ghost use Rattle.machine_parts.specs.Decided.{seen};
+ghost use Rattle.machine_parts.specs.Decided.{decision_value};
 ghost use Rattle.machine_parts.specs.Ready.{AreNumbered};
 
 use crate::threads::thread_native_decision;
@@ -25,7 +25,7 @@ use machine_thread::Thread;
 /// one.
 fn prints<'p>(frame: &Frame, takes: u16, what: Printed, ends_line: bool) -> Decided<'p>
     requires { frame.now.activation.place + 1 < 2 ^ 64 }
-    ensures { seen result ≡ prints frame.now.activation takes what ends_line }
+    ensures { decision_value result ≡ prints frame.now.activation takes what ends_line }
 {
     reaches(Effect::Prints { what, ends_line }, taking(takes, frame))
 }
@@ -40,7 +40,7 @@ fn object_printed<'p>(
     reference: u32,
 ) -> Decided<'p>
     requires { frame.now.activation.place + 1 < 2 ^ 64 }
-    ensures { seen result ≡ object_printed frame.now.activation takes ends_line reference
+    ensures { decision_value result ≡ object_printed frame.now.activation takes ends_line reference
         (object_at parts.now.state.heap reference) }
 {
     match parts.heap.units_of(reference) {
@@ -71,7 +71,8 @@ fn whole_top(frame: &Frame) -> Option<Value>
 /// Decides the print of the topmost value.
 fn value_printed<'p>(parts: &Parts<'p>, frame: &Frame, takes: u16, ends_line: bool) -> Decided<'p>
     requires { frame.now.activation.place + 1 < 2 ^ 64 }
-    ensures { seen result ≡ value_printed parts.now.state frame.now.activation takes ends_line
+    ensures { decision_value result
+        ≡ value_printed parts.now.state frame.now.activation takes ends_line
         (whole_top frame.now.activation.operands) }
 {
     match whole_top(frame) {
@@ -88,7 +89,8 @@ fn value_printed<'p>(parts: &Parts<'p>, frame: &Frame, takes: u16, ends_line: bo
 /// Decides a call of `print` or `println`.
 fn print_decision<'p>(parts: &Parts<'p>, frame: &Frame, takes: u16, method: &Method) -> Decided<'p>
     requires { frame.now.activation.place + 1 < 2 ^ 64 }
-    ensures { seen result ≡ print_decision parts.now.state frame.now.activation takes method.now }
+    ensures { decision_value result
+        ≡ print_decision parts.now.state frame.now.activation takes method.now }
 {
     let ends_line = is_named(method.name.as_slice(), "println");
     if ends_line && is_named(method.descriptor.as_slice(), "()V") {
@@ -111,7 +113,7 @@ pub(crate) fn native_decision<'p>(
 ) -> Decided<'p>
     requires place { frame.now.activation.place + 1 < 2 ^ 64 }
     requires numbered { AreNumbered parts.now.state }
-    ensures { seen result ≡ native_of_class parts.now.limits parts.now.state t thread.now
+    ensures { decision_value result ≡ native_of_class parts.now.limits parts.now.state t thread.now
         frame.now.activation takes method.now (slice_get parts.now.program class) }
 {
     let Some(c) = parts.program().class(class) else {

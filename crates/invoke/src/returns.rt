@@ -3,7 +3,7 @@
 ghost use Rattle.std.specs.Prelude.{◌≡◌, drop};
 ghost use Rattle.jvms_program.specs.Program.{method_at};
 ghost use Rattle.jvms_machine.specs.Returns.{gives_kind, gives_nothing, returns_to, returned_decision, return_top_decision, return_decision, method_return_decision};
-ghost use Rattle.machine_parts.specs.Decided.{seen};
+ghost use Rattle.machine_parts.specs.Decided.{decision_value};
 
 pub(crate) mod fast;
 
@@ -44,7 +44,8 @@ fn returns_to<'p>(
     value: Option<Value>,
     unlock: Option<MonitorUse>,
 ) -> Decided<'p>
-    ensures { seen result ≡ returns_to frame.now.method (drop 1 thread.now.frames) value unlock }
+    ensures { decision_value result
+        ≡ returns_to frame.now.method (drop 1 thread.now.frames) value unlock }
 {
     let method = frame.method();
     let action = if thread.height() <= 1 {
@@ -60,7 +61,7 @@ fn returns_to<'p>(
             unlock,
         }
     };
-    Decision::Makes(action)
+    Decision::Applies(action)
 }
 
 /// Decides that the top call, of this frame, returns and leaves its monitor.
@@ -71,7 +72,7 @@ fn returned_decision<'p>(
     frame: &Frame,
     value: Option<Value>,
 ) -> Decided<'p>
-    ensures { seen result ≡ returned_decision parts.now.limits parts.now.state t frame.now
+    ensures { decision_value result ≡ returned_decision parts.now.limits parts.now.state t frame.now
         (drop 1 thread.now.frames) value }
 {
     match parts.unlocking(t, frame) {
@@ -89,7 +90,8 @@ fn return_top_decision<'p>(
     given: &ResultType,
     kind: Kind,
 ) -> Decided<'p>
-    ensures { seen result ≡ return_top_decision parts.now.limits parts.now.state t frame.now
+    ensures { decision_value result
+        ≡ return_top_decision parts.now.limits parts.now.state t frame.now
         (drop 1 thread.now.frames) given.now kind }
 {
     if frame.height() < u16::from(kind_size(kind)) {
@@ -112,7 +114,7 @@ fn return_decision<'p>(
     given: &ResultType,
     how: ReturnInsn,
 ) -> Decided<'p>
-    ensures { seen result ≡ return_decision parts.now.limits parts.now.state t frame.now
+    ensures { decision_value result ≡ return_decision parts.now.limits parts.now.state t frame.now
         (drop 1 thread.now.frames) given.now how }
 {
     match how {
@@ -138,7 +140,8 @@ pub fn method_return_decision<'p>(
     frame: &Frame,
     how: ReturnInsn,
 ) -> Decided<'p>
-    ensures { seen result ≡ method_return_decision parts.now.limits parts.now.state t frame.now
+    ensures { decision_value result
+        ≡ method_return_decision parts.now.limits parts.now.state t frame.now
         (drop 1 thread.now.frames) how (method_at parts.now.program frame.now.method) }
 {
     let Some(method) = parts.program().method(frame.method()) else {

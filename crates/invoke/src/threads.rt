@@ -3,7 +3,7 @@
 ghost use Rattle.std.specs.Prelude.{◌≡◌, ◌+◌, ◌<◌, ◌^◌};
 ghost use Rattle.jvms_machine.specs.Threads.{thread_of, start_decision, join_decision, thread_native_decision};
 ghost use Rattle.std.specs.Prelude.{Some};
-ghost use Rattle.machine_parts.specs.Decided.{seen};
+ghost use Rattle.machine_parts.specs.Decided.{decision_value};
 ghost use Rattle.machine_parts.specs.Ready.{AreNumbered};
 
 use descriptor::is_named;
@@ -25,7 +25,7 @@ fn start_decision<'p>(
     reference: u32,
 ) -> Decided<'p>
     requires { frame.now.activation.place + 1 < 2 ^ 64 }
-    ensures { seen result ≡ start_decision parts.now.limits parts.now.state thread.now
+    ensures { decision_value result ≡ start_decision parts.now.limits parts.now.state thread.now
         frame.now.activation reference (thread_of parts.now.state.threads reference) }
 {
     if parts.thread_of(reference).is_some() {
@@ -47,7 +47,7 @@ fn start_decision<'p>(
 fn join_decision<'p>(parts: &Parts<'p>, frame: &Frame, joined: Option<usize>) -> Decided<'p>
     requires place { frame.now.activation.place + 1 < 2 ^ 64 }
     requires numbered { AreNumbered parts.now.state }
-    ensures { seen result ≡ join_decision parts.now.state frame.now.activation joined }
+    ensures { decision_value result ≡ join_decision parts.now.state frame.now.activation joined }
 {
     let Some(u) = joined else {
         return reaches(Effect::Nothing, taking(1, frame));
@@ -60,7 +60,7 @@ fn join_decision<'p>(parts: &Parts<'p>, frame: &Frame, joined: Option<usize>) ->
         reaches(Effect::Joins { thread }, taking(1, frame))
     } else {
         let on = BlockedOn::Join { thread };
-        Decision::Unmade(Outcome::Blocked { on })
+        Decision::Stays(Outcome::Blocked { on })
     }
 }
 
@@ -73,7 +73,7 @@ pub(crate) fn thread_native_decision<'p>(
 ) -> Decided<'p>
     requires place { frame.now.activation.place + 1 < 2 ^ 64 }
     requires numbered { AreNumbered parts.now.state }
-    ensures { seen result ≡ thread_native_decision parts.now.limits parts.now.state
+    ensures { decision_value result ≡ thread_native_decision parts.now.limits parts.now.state
         thread.now frame.now.activation method.now frame.now.activation.operands }
 {
     if frame.height() == 0 {

@@ -4,11 +4,11 @@ ghost use Rattle.std.specs.Prelude.{◌≡◌, ◌+◌, ◌<◌, ◌^◌, OnErr,
 ghost use Rattle.jvms_machine.specs.declared.action.Action.TheVariants as action;
 ghost use Rattle.jvms_machine.specs.Actions.{items_of};
 ghost use Rattle.jvms_machine.specs.Turn.{IsReady};
-ghost use Rattle.jvms_machine.specs.Waiting.{object_native_decision, owned, retaking, waits_or_notifies, waiting_decision};
-ghost use Rattle.machine_parts.specs.Decided.{seen};
+ghost use Rattle.jvms_machine.specs.Waiting.{object_native_decision, owner_decision, retaking, waits_or_notifies, waiting_decision};
+ghost use Rattle.machine_parts.specs.Decided.{decision_value};
 ghost use Rattle.machine_parts.specs.Machine.{after};
 ghost use Rattle.machine_parts.specs.Ready.{AreNumbered, HasCaller};
-ghost use Rattle.trace.specs.Recording.{recorded};
+ghost use Rattle.trace.specs.Recording.{with_items};
 
 use descriptor::is_named;
 use frames::Frame;
@@ -26,11 +26,11 @@ use trace::Recording;
 /// Decides the wait of the monitor's owner, with its entry count, or a notification.
 fn waits_or_notifies<'p>(frame: &Frame, method: &Method, wait: Wait) -> Decided<'p>
     requires { frame.now.activation.place + 1 < 2 ^ 64 }
-    ensures { seen result
+    ensures { decision_value result
         ≡ waits_or_notifies frame.now.activation method.now wait.reference wait.count }
 {
     if is_named(method.name.as_slice(), "wait") {
-        return Decision::Makes(Action::Waits(wait));
+        return Decision::Applies(Action::Waits(wait));
     }
     let effect = Effect::Notifies {
         reference: wait.reference,
@@ -51,7 +51,8 @@ fn owned_decision<'p>(
     hold: Option<Hold>,
 ) -> Decided<'p>
     requires { frame.now.activation.place + 1 < 2 ^ 64 }
-    ensures { seen result ≡ owned parts.now.limits parts.now.state t thread.now hold
+    ensures { decision_value result
+        ≡ owner_decision parts.now.limits parts.now.state t thread.now hold
         (waits_or_notifies frame.now.activation method.now reference) }
 {
     let Some(hold) = hold else {
@@ -76,7 +77,7 @@ pub(crate) fn object_native_decision<'p>(
     method: &Method,
 ) -> Decided<'p>
     requires { frame.now.activation.place + 1 < 2 ^ 64 }
-    ensures { seen result ≡ object_native_decision parts.now.limits parts.now.state
+    ensures { decision_value result ≡ object_native_decision parts.now.limits parts.now.state
         t thread.now frame.now.activation method.now frame.now.activation.operands }
 {
     if frame.height() == 0 {
@@ -91,16 +92,16 @@ pub(crate) fn object_native_decision<'p>(
 
 /// Decides that a notified thread retakes the monitor. The turn is blocked until the monitor is free.
 fn retaking<'p>(wait: Wait, hold: Option<Hold>) -> Decided<'p>
-    ensures { seen result ≡ retaking wait hold }
+    ensures { decision_value result ≡ retaking wait hold }
 {
     match hold {
-        None => Decision::Makes(Action::Retakes(wait)),
+        None => Decision::Applies(Action::Retakes(wait)),
         Some(hold) => {
             let on = BlockedOn::Monitor {
                 reference: wait.reference,
                 owner: hold.owner,
             };
-            Decision::Unmade(Outcome::Blocked { on })
+            Decision::Stays(Outcome::Blocked { on })
         }
     }
 }
@@ -108,13 +109,13 @@ fn retaking<'p>(wait: Wait, hold: Option<Hold>) -> Decided<'p>
 /// Decides the turn of a waiting thread. The turn is blocked until the thread is notified and the monitor is free.
 #[tactic(auto, unfolding(jvms_machine::specs::Waiting::waiting_decision))]
 pub fn waiting_decision<'p>(parts: &Parts<'p>, t: ThreadId, wait: Wait) -> Decided<'p>
-    ensures { seen result ≡ waiting_decision parts.now.state t wait }
+    ensures { decision_value result ≡ waiting_decision parts.now.state t wait }
 {
     if parts.is_waiter(t) {
         let on = BlockedOn::Wait {
             reference: wait.reference,
         };
-        return Decision::Unmade(Outcome::Blocked { on });
+        return Decision::Stays(Outcome::Blocked { on });
     }
     retaking(wait, parts.monitor(wait.reference))
 }
@@ -130,7 +131,7 @@ pub fn wait(
     requires { IsReady parts.old.start parts.old.state t (action.Waits wait) }
     ensures state { OnOk result (parts.new ≡ after parts.old t (action.Waits wait)) }
     ensures items { OnOk result
-        (trace.new ≡ recorded trace.old (items_of parts.old.program t (action.Waits wait))) }
+        (trace.new ≡ with_items trace.old (items_of parts.old.program t (action.Waits wait))) }
     ensures kept { OnErr result (parts.new ≡ parts.old) }
     ensures no_items { OnErr result (trace.new ≡ trace.old) }
 {
@@ -149,10 +150,10 @@ pub fn retake(
     trace: &mut Recording,
 ) -> Result<(), AllocError>
     requires ready { IsReady parts.old.start parts.old.state t (action.Retakes wait) }
-    requires stands { HasCaller parts.old.state t (action.Retakes wait) }
+    requires next { HasCaller parts.old.state t (action.Retakes wait) }
     ensures state { OnOk result (parts.new ≡ after parts.old t (action.Retakes wait)) }
     ensures items { OnOk result
-        (trace.new ≡ recorded trace.old (items_of parts.old.program t (action.Retakes wait))) }
+        (trace.new ≡ with_items trace.old (items_of parts.old.program t (action.Retakes wait))) }
     ensures kept { OnErr result (parts.new ≡ parts.old) }
     ensures no_items { OnErr result (trace.new ≡ trace.old) }
 {

@@ -4,7 +4,7 @@ use Rattle.std.proofs.lemmas.Bool.{eqb-true}
 use Rattle.std.proofs.lemmas.List.{length-append}
 use Rattle.std.proofs.lemmas.Option.{none-some, same_Some}
 use Rattle.std.specs.Option.{option_map, unwrap_or}
-use Rattle.jasmin.specs.Lexing.{escaped, four_digits, digits_from, escape_from, unit_from, units_from, closed, text_from, SpellsUnit, SpellsUnits}
+use Rattle.jasmin.specs.Lexing.{unit_of_escape, four_digits, digits_from, escape_from, unit_from, units_from, closed_text, text_from, SpellsUnit, SpellsUnits}
 use Rattle.jasmin.proofs.Steps.{choose, mapped}
 
 -- A unit is spelled at the front, before the rest.
@@ -33,9 +33,9 @@ digits_found (a ∷ b ∷ c ∷ d ∷ rest) v behind e =
 escape_found : (us : List ℕ) (v : ℕ) (behind : List ℕ) → escape_from us ≡ Some (v, behind) → Found (92 ∷ us) v behind
 escape_found [] v behind e = absurd (none-some _ e)
 escape_found (u ∷ us) v behind e =
-    choose (eqb u 117) (digits_from us) (option_map (λ n. (n, us)) (escaped u)) (Some (v, behind)) e
+    choose (eqb u 117) (digits_from us) (option_map (λ n. (n, us)) (unit_of_escape u)) (Some (v, behind)) e
     (λ met read. rw (eqb-true u 117 met) (digits_found us v behind read))
-    (λ unmet read. mapped (λ n. (n, us)) (escaped u) (v, behind) read (λ n is same.
+    (λ unmet read. mapped (λ n. (n, us)) (unit_of_escape u) (v, behind) read (λ n is same.
     record {
       first = 92 ∷ u ∷ [];
       parts = ap (λ (p : ℕ × List ℕ). 92 ∷ u ∷ p.1) same;
@@ -87,13 +87,13 @@ units_found zero us = record { inside = []; parts = refl; spells = refl }
 units_found (suc most) us = one_more most us (unit_from us) refl (units_found most)
 
 -- An escape that is spelled is read.
-escape_again : (letter v : ℕ) (behind : List ℕ) → escaped letter ≡ Some v → escape_from (letter ∷ behind) ≡ Some (v, behind)
+escape_again : (letter v : ℕ) (behind : List ℕ) → unit_of_escape letter ≡ Some v → escape_from (letter ∷ behind) ≡ Some (v, behind)
 escape_again letter v behind e =
-    let no_digits : (b : Bool) → eqb letter 117 ≡ b → cond b (digits_from behind) (option_map (λ n. (n, behind)) (escaped letter)) ≡ Some (v, behind) = λ b is. letter_again b is in
+    let no_digits : (b : Bool) → eqb letter 117 ≡ b → cond b (digits_from behind) (option_map (λ n. (n, behind)) (unit_of_escape letter)) ≡ Some (v, behind) = λ b is. letter_again b is in
     no_digits (eqb letter 117) refl
   where
-    letter_again : (b : Bool) → eqb letter 117 ≡ b → cond b (digits_from behind) (option_map (λ n. (n, behind)) (escaped letter)) ≡ Some (v, behind)
-    letter_again true is = absurd (none-some v (subst (λ (n : ℕ). escaped n ≡ Some v) (eqb-true letter 117 is) e))
+    letter_again : (b : Bool) → eqb letter 117 ≡ b → cond b (digits_from behind) (option_map (λ n. (n, behind)) (unit_of_escape letter)) ≡ Some (v, behind)
+    letter_again true is = absurd (none-some v (subst (λ (n : ℕ). unit_of_escape n ≡ Some v) (eqb-true letter 117 is) e))
     letter_again false is = rw e refl
 
 unit_again : (first behind : List ℕ) (v : ℕ) → SpellsUnit first v → unit_from (first ++ behind) ≡ Some (v, behind)
@@ -151,7 +151,7 @@ pub record TextFound (us vs behind : List ℕ) : Type 0 where
   pub parts : us ≡ inside ++ 34 ∷ behind
   pub spells : SpellsUnits inside vs
 
-closed_found : (us ws left vs behind : List ℕ) → AllFound us (ws, left) → closed ws left ≡ Some (vs, behind) → TextFound us vs behind
+closed_found : (us ws left vs behind : List ℕ) → AllFound us (ws, left) → closed_text ws left ≡ Some (vs, behind) → TextFound us vs behind
 closed_found us ws [] vs behind f e = absurd (none-some _ e)
 closed_found us ws (u ∷ rest) vs behind f e =
     choose (eqb u 34) (Some (ws, rest)) None (Some (vs, behind)) e

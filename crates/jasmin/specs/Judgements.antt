@@ -32,14 +32,14 @@ both (Err f) (Ok b) = Err f
 both (Err f) (Err g) = Err (lesser f g)
 
 -- Applies a function to the value of a judgement.
-abbrev pub said : {A B : Type 0} → (A → B) → Judged A → Judged B
-said make (Ok a) = Ok (make a)
-said make (Err f) = Err f
+abbrev pub map_ok : {A B : Type 0} → (A → B) → Judged A → Judged B
+map_ok make (Ok a) = Ok (make a)
+map_ok make (Err f) = Err f
 
 -- Returns the value of the first judgement, or the fault of the lesser number of both.
 abbrev pub unless : {A : Type 0} → Judged A → Judged (Unit {0}) → Judged A
-unless a b = said (λ p. p.0) (both a b)
+unless a b = map_ok (λ p. p.0) (both a b)
 
 -- Returns no value if the test holds, or else the fault.
-abbrev pub asked : Bool → Flaw → Judged (Unit {0})
-asked test f = if test then Ok tt else Err f
+abbrev pub judge_test : Bool → Flaw → Judged (Unit {0})
+judge_test test f = if test then Ok tt else Err f

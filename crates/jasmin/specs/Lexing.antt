@@ -45,8 +45,8 @@ four_digits a b c d =
     option_and_then (with_digit d) (option_and_then (with_digit c) (option_and_then (with_digit b) (digit a)))
 
 -- Returns the unit that a letter after a backslash denotes.
-abbrev pub escaped : ℕ → Option ℕ
-escaped u =
+abbrev pub unit_of_escape : ℕ → Option ℕ
+unit_of_escape u =
     if u == 110 then Some 10
     else (if u == 114 then Some 13
     else (if u == 116 then Some 9
@@ -62,7 +62,7 @@ escaped u =
 abbrev pub SpellsUnit : List ℕ → ℕ → Type 0
 SpellsUnit spelled v =
     ((spelled ≡ v ∷ []) × IsTrue (not (v == 34 || v == 92)))
-    ⊎ (((letter : ℕ) × (spelled ≡ 92 ∷ letter ∷ []) × (escaped letter ≡ Some v))
+    ⊎ (((letter : ℕ) × (spelled ≡ 92 ∷ letter ∷ []) × (unit_of_escape letter ≡ Some v))
     ⊎ ((a b c d : ℕ) × (spelled ≡ 92 ∷ 117 ∷ a ∷ b ∷ c ∷ d ∷ []) × (four_digits a b c d ≡ Some v)))
 
 -- The units spell these units of a text, between its quotes.
@@ -106,7 +106,7 @@ digits_from _ = None
 -- Reads the rest of an escape after its backslash, a letter or a `u` and four digits. Returns its unit and the rest.
 abbrev pub escape_from : List ℕ → Option (ℕ × List ℕ)
 escape_from [] = None
-escape_from (u ∷ behind) = if u == 117 then digits_from behind else option_map (λ v. (v, behind)) (escaped u)
+escape_from (u ∷ behind) = if u == 117 then digits_from behind else option_map (λ v. (v, behind)) (unit_of_escape u)
 
 -- Reads one unit of a text, and returns it and the rest. The closing quote is none.
 unfoldable pub unit_from : List ℕ → Option (ℕ × List ℕ)
@@ -120,13 +120,13 @@ units_from (suc most) us =
     unwrap_or (option_map (λ v. (v.0 ∷ (units_from most v.1).0, (units_from most v.1).1)) (unit_from us)) ([], us)
 
 -- Returns the units and the rest after the quote that closes their text.
-abbrev pub closed : List ℕ → List ℕ → Option (List ℕ × List ℕ)
-closed vs [] = None
-closed vs (u ∷ behind) = if u == 34 then Some (vs, behind) else None
+abbrev pub closed_text : List ℕ → List ℕ → Option (List ℕ × List ℕ)
+closed_text vs [] = None
+closed_text vs (u ∷ behind) = if u == 34 then Some (vs, behind) else None
 
 -- Reads a text after its opening quote, and returns it and the rest after its closing quote.
 abbrev pub text_from : List ℕ → Option (List ℕ × List ℕ)
-text_from us = closed (units_from (length us) us).0 (units_from (length us) us).1
+text_from us = closed_text (units_from (length us) us).0 (units_from (length us) us).1
 
 -- Reads a word, and returns it and the rest. The word is empty if none begins here.
 unfoldable pub word_from : List ℕ → List ℕ × List ℕ

@@ -14,11 +14,11 @@ use Rattle.jasmin.specs.declared.source.Caught.TheVariants as caught
 use Rattle.jasmin.specs.declared.statement.Flaw.{Flaw}
 use Rattle.jasmin.specs.declared.statement.Flaw.TheVariants as flaw
 use Rattle.jasmin.specs.Numerals.{number_of, between}
-use Rattle.jasmin.specs.Judgements.{Judged, said, asked, unless}
+use Rattle.jasmin.specs.Judgements.{Judged, map_ok, judge_test, unless}
 
 -- Judges the number of operands: exactly `n` are required.
 abbrev pub exactly : ℕ → List Lexeme → Judged (Unit {0})
-exactly n ts = asked (length ts == n) flaw.Operand
+exactly n ts = judge_test (length ts == n) flaw.Operand
 
 -- ---- Words
 
@@ -28,27 +28,27 @@ word_at (Some (lexeme.Word w)) = Ok w
 word_at _ = Err flaw.Operand
 
 -- Returns the word if it passes a test, or else the fault.
-abbrev pub tested : (List ℕ → Bool) → Flaw → Judged (List ℕ) → Judged (List ℕ)
-tested test f (Ok w) = if test w then Ok w else Err f
-tested test f (Err g) = Err g
+abbrev pub word_if : (List ℕ → Bool) → Flaw → Judged (List ℕ) → Judged (List ℕ)
+word_if test f (Ok w) = if test w then Ok w else Err f
+word_if test f (Err g) = Err g
 
 -- Judges a place that requires this word.
 abbrev pub keyword_at : List ℕ → Option Lexeme → Judged (Unit {0})
-keyword_at text t = said (λ w. tt) (tested (same_text text) flaw.Operand (word_at t))
+keyword_at text t = map_ok (λ w. tt) (word_if (same_text text) flaw.Operand (word_at t))
 
 abbrev pub name_at : Option Lexeme → Judged (List ℕ)
-name_at t = tested is_name flaw.Name (word_at t)
+name_at t = word_if is_name flaw.Name (word_at t)
 
 -- Judges a place that requires a class's name, which is no array's.
 abbrev pub class_name_at : Option Lexeme → Judged (List ℕ)
-class_name_at t = tested is_class_name flaw.Name (word_at t)
+class_name_at t = word_if is_class_name flaw.Name (word_at t)
 
 -- Judges a place that requires a class's name or an array's descriptor.
 abbrev pub class_at : Option Lexeme → Judged (List ℕ)
-class_at t = tested is_class_entry_name flaw.Name (word_at t)
+class_at t = word_if is_class_entry_name flaw.Name (word_at t)
 
 abbrev pub field_descriptor_at : Option Lexeme → Judged (List ℕ)
-field_descriptor_at t = tested (λ w. is_some (field_type_of w)) flaw.Descriptor (word_at t)
+field_descriptor_at t = word_if (λ w. is_some (field_type_of w)) flaw.Descriptor (word_at t)
 
 -- Decides whether a word is a label: it isn't empty and doesn't begin with a digit, `+`, `-` or `.`.
 abbrev pub is_label : List ℕ → Bool
@@ -56,7 +56,7 @@ is_label [] = false
 is_label (u ∷ us) = not ((nat_le 48 u && nat_le u 57) || (u == 43 || (u == 45 || u == 46)))
 
 abbrev pub label_at : Option Lexeme → Judged (List ℕ)
-label_at t = tested is_label flaw.Name (word_at t)
+label_at t = word_if is_label flaw.Name (word_at t)
 
 -- ---- Numbers
 
@@ -89,10 +89,10 @@ i64_at t = number_at (neg_ℤ (pos (2 ^ 63))) (pos (2 ^ 63 - 1)) t
 
 -- Judge places that require an unsigned number of 8 or 16 bits.
 abbrev pub u8_at : Option Lexeme → Judged ℕ
-u8_at t = said unsigned_abs (number_at (pos 0) (pos 255) t)
+u8_at t = map_ok unsigned_abs (number_at (pos 0) (pos 255) t)
 
 abbrev pub u16_at : Option Lexeme → Judged ℕ
-u16_at t = said unsigned_abs (number_at (pos 0) (pos 65535) t)
+u16_at t = map_ok unsigned_abs (number_at (pos 0) (pos 65535) t)
 
 -- ---- Members
 
@@ -163,7 +163,7 @@ flags_in words ts = flags_with words 0 ts
 
 -- Judges a place that requires one of the access words, whose flag isn't set yet.
 abbrev pub access_word : Access → ℕ → Lexeme → Judged (Unit {0})
-access_word words before (lexeme.Word w) = asked (is_new (flag_of words w)) flaw.Flags
+access_word words before (lexeme.Word w) = judge_test (is_new (flag_of words w)) flaw.Flags
   where
     is_new : Option ℕ → Bool
     is_new None = false
@@ -183,7 +183,7 @@ access_words words ts = access_words_after words 0 ts
 
 -- Judges a place that requires `all`, a class's name or an array's descriptor.
 abbrev pub caught_at : Option Lexeme → Judged Caught
-caught_at t = said caught_of (tested (λ w. same_text (codes "all") w || is_class_entry_name w) flaw.Name (word_at t))
+caught_at t = map_ok caught_of (word_if (λ w. same_text (codes "all") w || is_class_entry_name w) flaw.Name (word_at t))
   where
     caught_of : List ℕ → Caught
     caught_of w = if same_text (codes "all") w then caught.All else caught.Class w

@@ -39,7 +39,7 @@ use Rattle.jasmin.specs.declared.reading.OpenMethod.{OpenMethod}
 use Rattle.jasmin.specs.declared.reading.Reading.{Reading}
 use Rattle.jasmin.specs.Lexing.{tokens_of, lexemes}
 use Rattle.jasmin.specs.Sources.{units_of}
-use Rattle.jasmin.specs.Judgements.{Judged, asked}
+use Rattle.jasmin.specs.Judgements.{Judged, judge_test}
 use Rattle.jasmin.specs.LineKinds.{kind_of}
 use Rattle.jasmin.specs.Statements.{statement_of}
 use Rattle.jasmin.specs.Denote.{has_code}
@@ -190,18 +190,18 @@ closed_switch (Some (switch_lines.Lookup matches)) default m =
     record (with_item (item.Operation (operation.Lookup (record { matches = matches; default = default }))) m) { switch = None }
 closed_switch None default m = m
 
-abbrev pub opened : ℕ → List ℕ → List ℕ → OpenMethod
-opened access name descriptor =
+abbrev pub new_method : ℕ → List ℕ → List ℕ → OpenMethod
+new_method access name descriptor =
     record { access = access; name = name; descriptor = descriptor; throws = []; max_stack = None; max_locals = None; catches = []; code = []; switch = None }
 
 -- Returns the closed method. A limit that no line gives is 1.
-abbrev pub ended : OpenMethod → MethodLines
-ended m =
+abbrev pub method_lines_of : OpenMethod → MethodLines
+method_lines_of m =
     record { access = m.access; name = m.name; descriptor = m.descriptor; throws = m.throws; max_stack = unwrap_or m.max_stack 1; max_locals = unwrap_or m.max_locals 1; catches = m.catches; code = m.code }
 
 abbrev pub with_method : Option OpenMethod → Reading → Reading
 with_method None r = r
-with_method (Some m) r = record r { methods = r.methods ++ ended m ∷ []; method = None }
+with_method (Some m) r = record r { methods = r.methods ++ method_lines_of m ∷ []; method = None }
 
 -- Returns the state of the reader after this statement.
 unfoldable pub with_statement : Reading → Statement → Reading
@@ -213,7 +213,7 @@ with_statement r (statement.Superclass name) = record r { part = part.Super; sup
 with_statement r (statement.Implements name) = record r { part = part.Implements; interfaces = r.interfaces ++ name ∷ [] }
 with_statement r (statement.Field f) = record r { part = part.Members; fields = r.fields ++ f ∷ [] }
 with_statement r (statement.Method access name descriptor) =
-    record r { part = part.Members; method = Some (opened access name descriptor) }
+    record r { part = part.Members; method = Some (new_method access name descriptor) }
 with_statement r statement.EndMethod = with_method r.method r
 with_statement r (statement.MaxStack n) = in_method r (λ m. record m { max_stack = Some n })
 with_statement r (statement.MaxLocals n) = in_method r (λ m. record m { max_locals = Some n })
@@ -231,20 +231,20 @@ with_statement r (statement.LabelledInstruction label i) =
 -- ---- Lines
 
 -- Adds a statement that doesn't repeat another.
-abbrev pub added : Reading → Statement → Judged Reading
-added r s = if is_repeated r s then Err flaw.Repeated else Ok (with_statement r s)
+abbrev pub judge_statement : Reading → Statement → Judged Reading
+judge_statement r s = if is_repeated r s then Err flaw.Repeated else Ok (with_statement r s)
 
 -- Judges a line of a kind, and adds its statement.
-abbrev pub placed : Reading → LineKind → List Lexeme → Judged Reading
-placed r k ts = do
-  _ ← asked (is_in_place r k) flaw.OutOfPlace
+abbrev pub judge_line : Reading → LineKind → List Lexeme → Judged Reading
+judge_line r k ts = do
+  _ ← judge_test (is_in_place r k) flaw.OutOfPlace
   s ← statement_of (sort_of r.access) (switch_of r) k ts
-  added r s
+  judge_statement r s
 
 abbrev pub with_lexemes : Reading → List Lexeme → Judged Reading
 with_lexemes r ts = do
   k ← kind_of (switch_of r) ts
-  placed r k ts
+  judge_line r k ts
 
 -- Returns the state of the reader after a line of these units, or the line's fault.
 unfoldable pub with_line : Reading → List ℕ → Judged Reading
@@ -278,8 +278,8 @@ last_line [] = 1
 last_line (line ∷ others) = length (line ∷ others)
 
 -- Returns the source, if it has a class and no method is open.
-abbrev pub finished : ℕ → Reading → Result Source (ℕ × Flaw)
-finished last r = of_parts r.name r.method
+abbrev pub source_of_reading : ℕ → Reading → Result Source (ℕ × Flaw)
+source_of_reading last r = of_parts r.name r.method
   where
     of_parts : Option (List ℕ) → Option OpenMethod → Result Source (ℕ × Flaw)
     of_parts (Some name) None =
@@ -291,4 +291,4 @@ finished last r = of_parts r.name r.method
 unfoldable pub source_of : List ℕ → Result Source (ℕ × Flaw)
 source_of text = do
   r ← with_lines 0 empty_reading (lines text)
-  finished (last_line (lines text)) r
+  source_of_reading (last_line (lines text)) r

@@ -40,19 +40,19 @@ use Rattle.jasmin.specs.declared.statement.Instruction.TheVariants as instructio
 use Rattle.jasmin.specs.declared.statement.Statement.{Statement}
 use Rattle.jasmin.specs.declared.statement.Statement.TheVariants as statement
 use Rattle.jasmin.specs.Numerals.{number_of, is_version}
-use Rattle.jasmin.specs.Judgements.{Judged, both, said, unless, asked}
-use Rattle.jasmin.specs.Operands.{exactly, word_at, tested, keyword_at, name_at, class_name_at, class_at, field_descriptor_at, label_at, i8_at, i16_at, i32_at, i64_at, u8_at, u16_at, class_of, name_of, is_member, before_descriptor, descriptor_of, class_words, field_words, method_words, flags_in, access_words, caught_at, array_type_at}
+use Rattle.jasmin.specs.Judgements.{Judged, both, map_ok, unless, judge_test}
+use Rattle.jasmin.specs.Operands.{exactly, word_at, word_if, keyword_at, name_at, class_name_at, class_at, field_descriptor_at, label_at, i8_at, i16_at, i32_at, i64_at, u8_at, u16_at, class_of, name_of, is_member, before_descriptor, descriptor_of, class_words, field_words, method_words, flags_in, access_words, caught_at, array_type_at}
 
 -- ---- Directives outside of methods
 
 -- Judges the version of `.bytecode M.N`, which is dropped.
 abbrev pub version_at : Option Lexeme → Judged (Unit {0})
 version_at None = Err flaw.Operand
-version_at (Some (lexeme.Word w)) = asked (is_version w) flaw.Number
+version_at (Some (lexeme.Word w)) = judge_test (is_version w) flaw.Number
 version_at (Some _) = Err flaw.Number
 
 unfoldable pub bytecode_line : List Lexeme → Judged Statement
-bytecode_line ts = said (λ _. statement.Bytecode) (both (version_at (slice_get ts 0)) (exactly 1 ts))
+bytecode_line ts = map_ok (λ _. statement.Bytecode) (both (version_at (slice_get ts 0)) (exactly 1 ts))
 
 -- Judges the operand of `.source`, a word or a text, which is dropped.
 abbrev pub file_at : Option Lexeme → Judged (Unit {0})
@@ -61,7 +61,7 @@ file_at (Some (lexeme.Text t)) = Ok tt
 file_at _ = Err flaw.Operand
 
 unfoldable pub source_line : List Lexeme → Judged Statement
-source_line ts = said (λ _. statement.SourceFile) (both (file_at (slice_get ts 0)) (exactly 1 ts))
+source_line ts = map_ok (λ _. statement.SourceFile) (both (file_at (slice_get ts 0)) (exactly 1 ts))
 
 -- Returns all tokens but the last.
 abbrev pub but_last : List Lexeme → List Lexeme
@@ -73,15 +73,15 @@ last_of ts = slice_get ts (length ts - 1)
 -- Judges `.class` or `.interface`, with access words and a name. The directive adds flags of its own.
 unfoldable pub class_line : ℕ → List Lexeme → Judged Statement
 class_line added ts =
-    said
+    map_ok
     (λ name. statement.Class (bit_or (flags_in class_words (but_last ts)) added) name)
     (unless (class_name_at (last_of ts)) (access_words class_words (but_last ts)))
 
 unfoldable pub super_line : List Lexeme → Judged Statement
-super_line ts = said (λ name. statement.Superclass name) (unless (class_name_at (slice_get ts 0)) (exactly 1 ts))
+super_line ts = map_ok (λ name. statement.Superclass name) (unless (class_name_at (slice_get ts 0)) (exactly 1 ts))
 
 unfoldable pub implements_line : List Lexeme → Judged Statement
-implements_line ts = said (λ name. statement.Implements name) (unless (class_name_at (slice_get ts 0)) (exactly 1 ts))
+implements_line ts = map_ok (λ name. statement.Implements name) (unless (class_name_at (slice_get ts 0)) (exactly 1 ts))
 
 -- ---- Fields
 
@@ -118,7 +118,7 @@ int_constant descriptor (Err f) = Err f
 
 abbrev pub constant_at : List ℕ → Option Lexeme → Judged FieldConstant
 constant_at descriptor (Some (lexeme.Word w)) =
-    if is_long descriptor then said (λ n. constant.Long n) (i64_at (Some (lexeme.Word w)))
+    if is_long descriptor then map_ok (λ n. constant.Long n) (i64_at (Some (lexeme.Word w)))
     else int_constant descriptor (i32_at (Some (lexeme.Word w)))
 constant_at descriptor (Some (lexeme.Text t)) =
     if is_string_type descriptor then Ok (constant.String t) else Err flaw.Operand
@@ -127,7 +127,7 @@ constant_at descriptor _ = Err flaw.Operand
 -- Judges what follows `=`, which is exactly one value.
 abbrev pub constant_in : List ℕ → Option (List Lexeme) → Judged (Option FieldConstant)
 constant_in descriptor None = Ok None
-constant_in descriptor (Some ts) = said (λ c. Some c) (unless (constant_at descriptor (slice_get ts 0)) (exactly 1 ts))
+constant_in descriptor (Some ts) = map_ok (λ c. Some c) (unless (constant_at descriptor (slice_get ts 0)) (exactly 1 ts))
 
 -- Returns the units of a word, or none for another token.
 abbrev pub word_or_none : Option Lexeme → List ℕ
@@ -144,7 +144,7 @@ field_name_at head = if nat_le 2 (length head) then slice_get head (length head 
 unfoldable pub field_line : List Lexeme → Judged Statement
 field_line ts =
     let head = field_head ts in
-    said
+    map_ok
     (λ p. statement.Field (record { access = flags_in field_words (field_access head); name = p.0; descriptor = p.1.0; constant = p.1.1 }))
     (unless
     (both (name_at (field_name_at head)) (both (field_descriptor_at (last_of head)) (constant_in (word_or_none (last_of head)) (field_tail ts))))
@@ -163,27 +163,27 @@ method_head_at sort access (Err f) = Err f
 method_head_at sort access (Ok w) =
     unless
     (both
-    (tested is_method_name flaw.Name (Ok (before_descriptor w)))
-    (tested (is_method_descriptor_for (is_static access || is_initializer_name (before_descriptor w))) flaw.Descriptor (Ok (descriptor_of w))))
-    (asked (is_permitted sort access (before_descriptor w)) flaw.Flags)
+    (word_if is_method_name flaw.Name (Ok (before_descriptor w)))
+    (word_if (is_method_descriptor_for (is_static access || is_initializer_name (before_descriptor w))) flaw.Descriptor (Ok (descriptor_of w))))
+    (judge_test (is_permitted sort access (before_descriptor w)) flaw.Flags)
 
 unfoldable pub method_line : ClassSort → List Lexeme → Judged Statement
 method_line sort ts =
     let access = flags_in method_words (but_last ts) in
-    said
+    map_ok
     (λ p. statement.Method access p.0 p.1)
     (unless (method_head_at sort access (word_at (last_of ts))) (access_words method_words (but_last ts)))
 
 unfoldable pub end_line : List Lexeme → Judged Statement
-end_line ts = said (λ _. statement.EndMethod) (both (keyword_at (codes "method") (slice_get ts 0)) (exactly 1 ts))
+end_line ts = map_ok (λ _. statement.EndMethod) (both (keyword_at (codes "method") (slice_get ts 0)) (exactly 1 ts))
 
 -- Judges the first operand of `.limit`, `stack` or `locals`, and decides whether it is `stack`.
 abbrev pub limit_at : Option Lexeme → Judged Bool
-limit_at t = said (λ w. same_text (codes "stack") w) (tested (λ w. same_text (codes "stack") w || same_text (codes "locals") w) flaw.Operand (word_at t))
+limit_at t = map_ok (λ w. same_text (codes "stack") w) (word_if (λ w. same_text (codes "stack") w || same_text (codes "locals") w) flaw.Operand (word_at t))
 
 unfoldable pub limit_line : List Lexeme → Judged Statement
 limit_line ts =
-    said
+    map_ok
     (λ p. if p.0 then statement.MaxStack p.1 else statement.MaxLocals p.1)
     (unless (both (limit_at (slice_get ts 0)) (u16_at (slice_get ts 1))) (exactly 2 ts))
 
@@ -194,23 +194,23 @@ label_after text ts n = unless (label_at (slice_get ts (suc n))) (keyword_at tex
 -- Judges `.catch C from A to B using H`.
 unfoldable pub catch_line : List Lexeme → Judged Statement
 catch_line ts =
-    said
+    map_ok
     (λ p. statement.Catch (record { caught = p.0; from = p.1.0; to = p.1.1.0; using = p.1.1.1 }))
     (unless
     (both (caught_at (slice_get ts 0)) (both (label_after (codes "from") ts 1) (both (label_after (codes "to") ts 3) (label_after (codes "using") ts 5))))
     (exactly 7 ts))
 
 unfoldable pub throws_line : List Lexeme → Judged Statement
-throws_line ts = said (λ name. statement.Throws name) (unless (class_at (slice_get ts 0)) (exactly 1 ts))
+throws_line ts = map_ok (λ name. statement.Throws name) (unless (class_at (slice_get ts 0)) (exactly 1 ts))
 
 -- Judges `.line n`, which is dropped.
 unfoldable pub line_line : List Lexeme → Judged Statement
-line_line ts = said (λ _. statement.Dropped) (both (u16_at (slice_get ts 0)) (exactly 1 ts))
+line_line ts = map_ok (λ _. statement.Dropped) (both (u16_at (slice_get ts 0)) (exactly 1 ts))
 
 -- Judges `.var n is name descriptor from A to B`, which is dropped.
 unfoldable pub var_line : List Lexeme → Judged Statement
 var_line ts =
-    said
+    map_ok
     (λ _. statement.Dropped)
     (unless
     (both (both (u16_at (slice_get ts 0)) (keyword_at (codes "is") (slice_get ts 1)))
@@ -237,7 +237,7 @@ directive_line directive.Var sort ts = var_line ts
 -- ---- Instructions
 
 abbrev pub whole : Judged Operation → Judged Instruction
-whole o = said (λ o. instruction.Whole o) o
+whole o = map_ok (λ o. instruction.Whole o) o
 
 -- Judges a line with a single operand.
 abbrev pub alone : {A : Type 0} → (Option Lexeme → Judged A) → List Lexeme → Judged A
@@ -245,8 +245,8 @@ alone at ts = unless (at (slice_get ts 0)) (exactly 1 ts)
 
 -- Judges the constant of `ldc`: a text, a word that is a number, or else a class.
 abbrev pub loaded_word : List ℕ → Option ℤ → Judged LoadedConstant
-loaded_word w (Some n) = said (λ n. loaded.Integer n) (i32_at (Some (lexeme.Word w)))
-loaded_word w None = said (λ name. loaded.Class name) (class_at (Some (lexeme.Word w)))
+loaded_word w (Some n) = map_ok (λ n. loaded.Integer n) (i32_at (Some (lexeme.Word w)))
+loaded_word w None = map_ok (λ name. loaded.Class name) (class_at (Some (lexeme.Word w)))
 
 abbrev pub loaded_at : Option Lexeme → Judged LoadedConstant
 loaded_at (Some (lexeme.Text t)) = Ok (loaded.String t)
@@ -254,22 +254,22 @@ loaded_at (Some (lexeme.Word w)) = loaded_word w (number_of w)
 loaded_at _ = Err flaw.Operand
 
 unfoldable pub constant_operation : ConstantWidth → List Lexeme → Judged Operation
-constant_operation width ts = said (λ c. operation.Constant width c) (alone loaded_at ts)
+constant_operation width ts = map_ok (λ c. operation.Constant width c) (alone loaded_at ts)
 
 unfoldable pub increment_operation : List Lexeme → Judged Operation
 increment_operation ts =
-    said (λ p. operation.Increment p.0 p.1) (unless (both (u16_at (slice_get ts 0)) (i16_at (slice_get ts 1))) (exactly 2 ts))
+    map_ok (λ p. operation.Increment p.0 p.1) (unless (both (u16_at (slice_get ts 0)) (i16_at (slice_get ts 1))) (exactly 2 ts))
 
 unfoldable pub branch_operation : BranchWidth → Branch → List Lexeme → Judged Operation
-branch_operation width how ts = said (λ label. operation.Branch width how label) (alone label_at ts)
+branch_operation width how ts = map_ok (λ label. operation.Branch width how label) (alone label_at ts)
 
 -- Judges `class/name` and a descriptor.
 unfoldable pub field_operation : FieldUse → List Lexeme → Judged Operation
 field_operation how ts =
-    said
+    map_ok
     (λ p. operation.Field how (record { class = class_of p.0; name = name_of p.0; descriptor = p.1 }))
     (unless
-    (both (tested (is_member is_name) flaw.Name (word_at (slice_get ts 0))) (field_descriptor_at (slice_get ts 1)))
+    (both (word_if (is_member is_name) flaw.Name (word_at (slice_get ts 0))) (field_descriptor_at (slice_get ts 1)))
     (exactly 2 ts))
 
 -- Judges the method of an invoke instruction. Of the names with an angle bracket, only `<init>` is allowed, and only
@@ -278,9 +278,9 @@ abbrev pub named_method : Invoke → List ℕ → Judged (List ℕ × List ℕ)
 named_method how w =
     unless
     (both
-    (tested (is_member is_method_name) flaw.Name (Ok (before_descriptor w)))
-    (tested (is_method_descriptor_for true) flaw.Descriptor (Ok (descriptor_of w))))
-    (asked (is_invocable_name how (name_of (before_descriptor w))) flaw.Operand)
+    (word_if (is_member is_method_name) flaw.Name (Ok (before_descriptor w)))
+    (word_if (is_method_descriptor_for true) flaw.Descriptor (Ok (descriptor_of w))))
+    (judge_test (is_invocable_name how (name_of (before_descriptor w))) flaw.Operand)
 
 -- Judges a place that requires `class/name(..)r`.
 abbrev pub method_at : Invoke → Option Lexeme → Judged (List ℕ × List ℕ)
@@ -294,7 +294,7 @@ is_count n None = true
 is_count n (Some units) = n == units
 
 abbrev pub counted_at : List ℕ → Judged ℕ → Judged (Unit {0})
-counted_at descriptor (Ok n) = asked (is_count n (interface_count (Some ([], descriptor)))) flaw.Operand
+counted_at descriptor (Ok n) = judge_test (is_count n (interface_count (Some ([], descriptor)))) flaw.Operand
 counted_at descriptor (Err f) = Err f
 
 abbrev pub operands_after_method : Invoke → List Lexeme → Judged (Unit {0})
@@ -304,7 +304,7 @@ operands_after_method _ ts = exactly 1 ts
 
 unfoldable pub invoke_operation : Invoke → List Lexeme → Judged Operation
 invoke_operation how ts =
-    said
+    map_ok
     (λ p. operation.Invoke how (record { class = class_of p.0; name = name_of p.0; descriptor = p.1 }))
     (unless (method_at how (slice_get ts 0)) (operands_after_method how ts))
 
@@ -316,14 +316,14 @@ is_usable_word how w = not (is_class_entry_name w) || is_usable_class how w
 
 unfoldable pub class_operation : ClassUse → List Lexeme → Judged Operation
 class_operation how ts =
-    said
+    map_ok
     (λ name. operation.Class how name)
     (unless
-    (unless (class_at (slice_get ts 0)) (asked (is_usable_word how (word_or_none (slice_get ts 0))) flaw.Operand))
+    (unless (class_at (slice_get ts 0)) (judge_test (is_usable_word how (word_or_none (slice_get ts 0))) flaw.Operand))
     (exactly 1 ts))
 
 unfoldable pub new_array_operation : List Lexeme → Judged Operation
-new_array_operation ts = said (λ type. operation.NewArray type) (alone array_type_at ts)
+new_array_operation ts = map_ok (λ type. operation.NewArray type) (alone array_type_at ts)
 
 -- Judges a number of dimensions: at least one, and at most those of the class (JVMS 6.5).
 abbrev pub dimensions_at : List ℕ → Judged ℕ → Judged ℕ
@@ -332,7 +332,7 @@ dimensions_at name (Err f) = Err f
 
 unfoldable pub multi_new_array_operation : List Lexeme → Judged Operation
 multi_new_array_operation ts =
-    said
+    map_ok
     (λ p. operation.MultiNewArray p.0 p.1)
     (unless
     (both (class_at (slice_get ts 0)) (dimensions_at (word_or_none (slice_get ts 0)) (u8_at (slice_get ts 1))))
@@ -340,18 +340,18 @@ multi_new_array_operation ts =
 
 -- Judges the operands of an instruction. No mnemonic names `wide`, or the opcode 186 that these versions lack.
 abbrev pub instruction_with : ℕ → Opcode → List Lexeme → Judged Instruction
-instruction_with code (opcode.Alone s) ts = whole (said (λ _. operation.Alone code) (exactly 0 ts))
-instruction_with code opcode.PushByte ts = whole (said (λ n. operation.PushByte n) (alone i8_at ts))
-instruction_with code opcode.PushShort ts = whole (said (λ n. operation.PushShort n) (alone i16_at ts))
+instruction_with code (opcode.Alone s) ts = whole (map_ok (λ _. operation.Alone code) (exactly 0 ts))
+instruction_with code opcode.PushByte ts = whole (map_ok (λ n. operation.PushByte n) (alone i8_at ts))
+instruction_with code opcode.PushShort ts = whole (map_ok (λ n. operation.PushShort n) (alone i16_at ts))
 instruction_with code opcode.Constant ts = whole (constant_operation constant_width.AsNeeded ts)
 instruction_with code opcode.ConstantWide ts = whole (constant_operation constant_width.Wide ts)
-instruction_with code opcode.ConstantLong ts = whole (said (λ n. operation.ConstantLong n) (alone i64_at ts))
-instruction_with code (opcode.Local how) ts = whole (said (λ n. operation.Local how n) (alone u16_at ts))
+instruction_with code opcode.ConstantLong ts = whole (map_ok (λ n. operation.ConstantLong n) (alone i64_at ts))
+instruction_with code (opcode.Local how) ts = whole (map_ok (λ n. operation.Local how n) (alone u16_at ts))
 instruction_with code opcode.Increment ts = whole (increment_operation ts)
 instruction_with code (opcode.Branch how) ts = whole (branch_operation branch_width.Short how ts)
 instruction_with code (opcode.BranchWide how) ts = whole (branch_operation branch_width.Wide how ts)
-instruction_with code opcode.TableSwitch ts = said (λ low. instruction.Table low) (alone i32_at ts)
-instruction_with code opcode.LookupSwitch ts = said (λ _. instruction.Lookup) (exactly 0 ts)
+instruction_with code opcode.TableSwitch ts = map_ok (λ low. instruction.Table low) (alone i32_at ts)
+instruction_with code opcode.LookupSwitch ts = map_ok (λ _. instruction.Lookup) (exactly 0 ts)
 instruction_with code (opcode.Field how) ts = whole (field_operation how ts)
 instruction_with code (opcode.Invoke how) ts = whole (invoke_operation how ts)
 instruction_with code (opcode.Class how) ts = whole (class_operation how ts)
@@ -373,9 +373,9 @@ instruction_line code ts = of_form (slice_get OPCODES code)
 -- Judges a line of a tableswitch, which is a label. The value of the label fits an int.
 unfoldable pub table_line : ℤ → List Lexeme → Judged Statement
 table_line next ts =
-    said
+    map_ok
     (λ label. statement.TableLabel label)
-    (unless (unless (label_at (slice_get ts 0)) (exactly 1 ts)) (asked (int_le next (pos 2147483647)) flaw.Number))
+    (unless (unless (label_at (slice_get ts 0)) (exactly 1 ts)) (judge_test (int_le next (pos 2147483647)) flaw.Number))
 
 abbrev pub colon_at : Option Lexeme → Judged (Unit {0})
 colon_at (Some lexeme.Colon) = Ok tt
@@ -392,7 +392,7 @@ rising_at last (Err f) = Err f
 
 unfoldable pub match_line : Option ℤ → List Lexeme → Judged Statement
 match_line last ts =
-    said
+    map_ok
     (λ p. statement.Match (record { value = p.0; label = p.1 }))
     (both (rising_at last (i32_at (slice_get ts 0))) (label_after_colon ts))
 
@@ -403,7 +403,7 @@ case_line (open_switch.Lookup last) ts = match_line last ts
 
 -- Judges the default of a switch, whose first token is the word `default`.
 unfoldable pub default_line : List Lexeme → Judged Statement
-default_line ts = said (λ label. statement.Default label) (label_after_colon ts)
+default_line ts = map_ok (λ label. statement.Default label) (label_after_colon ts)
 
 -- ---- A line
 
@@ -418,7 +418,7 @@ statement_of sort switch kind.Blank ts = Ok statement.Blank
 statement_of sort switch (kind.Directive d) ts = directive_line d sort (drop 1 ts)
 statement_of sort switch kind.Case ts = case_line switch ts
 statement_of sort switch kind.Default ts = default_line ts
-statement_of sort switch kind.Label ts = said (λ l. statement.Label l) (label_line ts)
-statement_of sort switch (kind.Instruction code) ts = said (λ i. statement.Instruction i) (instruction_line code (drop 1 ts))
+statement_of sort switch kind.Label ts = map_ok (λ l. statement.Label l) (label_line ts)
+statement_of sort switch (kind.Instruction code) ts = map_ok (λ i. statement.Instruction i) (instruction_line code (drop 1 ts))
 statement_of sort switch (kind.LabelledInstruction code) ts =
-    said (λ p. statement.LabelledInstruction p.0 p.1) (both (label_line ts) (instruction_line code (drop 3 ts)))
+    map_ok (λ p. statement.LabelledInstruction p.0 p.1) (both (label_line ts) (instruction_line code (drop 3 ts)))

@@ -3,7 +3,7 @@
 ghost use Rattle.std.specs.Prelude.{◌≡◌, Some, slice_get};
 ghost use Rattle.jvms_file.specs.Instructions.{is_usable_class, is_dimensions};
 ghost use Rattle.jasmin.specs.Lexing.{lexemes};
-ghost use Rattle.jasmin.specs.Judgements.{asked, both, said, unless};
+ghost use Rattle.jasmin.specs.Judgements.{judge_test, both, map_ok, unless};
 ghost use Rattle.jasmin.specs.Operands.{exactly, class_at, u8_at};
 ghost use Rattle.jasmin.specs.Statements.{word_or_none, is_usable_word, class_operation, dimensions_at, multi_new_array_operation};
 ghost use Rattle.jasmin_instructions.specs.Saying.{Says};
@@ -15,7 +15,7 @@ use jasmin::source::Operation;
 use jasmin::statement::Flaw;
 use jasmin::token::Token;
 use jasmin_operands::{
-    Judged, asked, both, class_at, exactly, operand, u8_at, unless, word_or_none,
+    Judged, both, class_at, exactly, judge_test, operand, u8_at, unless, word_or_none,
 };
 use jvms_file::insn::ClassUse;
 use shared_data::texts::copied_text;
@@ -50,13 +50,14 @@ fn is_usable_word(how: ClassUse, word: &[u16]) -> bool
 /// Judges the class of an instruction, its only operand.
 fn class_parts(how: ClassUse, tokens: &[Token]) -> Judged<&[u16]>
     ensures { let ts = lexemes tokens.now in
-        said (λ w. w.now) result ≡ unless (unless (class_at (slice_get ts 0))
-        (asked (is_usable_word how (word_or_none (slice_get ts 0))) Flaw.Operand)) (exactly 1 ts) }
+        map_ok (λ w. w.now) result ≡ unless (unless (class_at (slice_get ts 0))
+        (judge_test (is_usable_word how (word_or_none (slice_get ts 0))) Flaw.Operand))
+        (exactly 1 ts) }
 {
     let is_usable = is_usable_word(how, word_or_none(operand(tokens, 0)));
     let class = word_unless(
         class_at(operand(tokens, 0)),
-        asked(is_usable, Flaw::Operand),
+        judge_test(is_usable, Flaw::Operand),
     );
     word_unless(class, exactly(1, tokens))
 }
@@ -110,7 +111,7 @@ fn dimensions(tokens: &[Token]) -> Judged<u8>
 #[tactic(auto, using(jasmin_operands::proofs::Judgements::said_both))]
 fn multi_at(tokens: &[Token]) -> Judged<(&[u16], u8)>
     ensures { let ts = lexemes tokens.now in
-        said (λ p. (p.0.now, p.1)) result ≡ both (class_at (slice_get ts 0))
+        map_ok (λ p. (p.0.now, p.1)) result ≡ both (class_at (slice_get ts 0))
         (dimensions_at (word_or_none (slice_get ts 0)) (u8_at (slice_get ts 1))) }
 {
     both(class_at(operand(tokens, 0)), dimensions(tokens))
@@ -120,7 +121,7 @@ fn multi_at(tokens: &[Token]) -> Judged<(&[u16], u8)>
 #[tactic(auto, using(jasmin_operands::proofs::Judgements::said_unless))]
 fn multi_parts(tokens: &[Token]) -> Judged<(&[u16], u8)>
     ensures { let ts = lexemes tokens.now in
-        said (λ p. (p.0.now, p.1)) result ≡ unless (both (class_at (slice_get ts 0))
+        map_ok (λ p. (p.0.now, p.1)) result ≡ unless (both (class_at (slice_get ts 0))
         (dimensions_at (word_or_none (slice_get ts 0)) (u8_at (slice_get ts 1)))) (exactly 2 ts) }
 {
     unless(multi_at(tokens), exactly(2, tokens))

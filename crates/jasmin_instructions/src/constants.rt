@@ -3,7 +3,7 @@
 ghost use Rattle.std.specs.Prelude.{◌≡◌, IfOk};
 ghost use Rattle.std.specs.Option.{option_map};
 ghost use Rattle.jasmin.specs.Lexing.{lexemes};
-ghost use Rattle.jasmin.specs.Judgements.{said};
+ghost use Rattle.jasmin.specs.Judgements.{map_ok};
 ghost use Rattle.jasmin.specs.Operands.{i32_at, class_at};
 ghost use Rattle.jasmin.specs.Statements.{loaded_at, alone, constant_operation};
 ghost use Rattle.jasmin_instructions.specs.Saying.{Says};
@@ -28,15 +28,15 @@ pub(crate) enum BorrowedConstant<'a> {
 
 /// Judges the number that is loaded.
 fn loaded_number(lexeme: Option<&Lexeme>) -> Judged<BorrowedConstant<'_>>
-    ensures { said loaded_of result
-        ≡ said (λ n. LoadedConstant.Integer n) (i32_at (option_map (λ l. l.now) lexeme.entry)) }
+    ensures { map_ok loaded_of result
+        ≡ map_ok (λ n. LoadedConstant.Integer n) (i32_at (option_map (λ l. l.now) lexeme.entry)) }
 {
     Ok(BorrowedConstant::Integer(i32_at(lexeme)?))
 }
 
 /// Judges the class that is loaded.
 fn loaded_class(lexeme: Option<&Lexeme>) -> Judged<BorrowedConstant<'_>>
-    ensures { said loaded_of result ≡ said (λ name. LoadedConstant.Class name)
+    ensures { map_ok loaded_of result ≡ map_ok (λ name. LoadedConstant.Class name)
         (class_at (option_map (λ l. l.now) lexeme.entry)) }
 {
     Ok(BorrowedConstant::Class(class_at(lexeme)?))
@@ -44,7 +44,7 @@ fn loaded_class(lexeme: Option<&Lexeme>) -> Judged<BorrowedConstant<'_>>
 
 /// Judges the constant that is loaded: a text, a word that is a number, or else a class.
 fn loaded_at(lexeme: Option<&Lexeme>) -> Judged<BorrowedConstant<'_>>
-    ensures { said loaded_of result ≡ loaded_at (option_map (λ l. l.now) lexeme.entry) }
+    ensures { map_ok loaded_of result ≡ loaded_at (option_map (λ l. l.now) lexeme.entry) }
 {
     match lexeme {
         Some(Lexeme::Text(units)) => Ok(BorrowedConstant::String(units.as_slice())),
@@ -62,7 +62,7 @@ fn loaded_at(lexeme: Option<&Lexeme>) -> Judged<BorrowedConstant<'_>>
 /// Judges the only operand of a load.
 #[tactic(auto, using(jasmin_operands::proofs::Judgements::said_unless))]
 fn loaded(tokens: &[Token]) -> Judged<BorrowedConstant<'_>>
-    ensures { said loaded_of result ≡ alone loaded_at (lexemes tokens.now) }
+    ensures { map_ok loaded_of result ≡ alone loaded_at (lexemes tokens.now) }
 {
     unless(loaded_at(operand(tokens, 0)), exactly(1, tokens))
 }

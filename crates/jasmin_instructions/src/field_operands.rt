@@ -4,8 +4,8 @@ ghost use Rattle.std.specs.Prelude.{◌≡◌, slice_get};
 ghost use Rattle.std.specs.Option.{option_map};
 ghost use Rattle.jvms_file.specs.Names.{is_name};
 ghost use Rattle.jasmin.specs.Lexing.{lexemes};
-ghost use Rattle.jasmin.specs.Judgements.{both, said, unless};
-ghost use Rattle.jasmin.specs.Operands.{exactly, tested, word_at, is_member, field_descriptor_at};
+ghost use Rattle.jasmin.specs.Judgements.{both, map_ok, unless};
+ghost use Rattle.jasmin.specs.Operands.{exactly, word_if, word_at, is_member, field_descriptor_at};
 ghost use Rattle.jasmin.specs.Statements.{field_operation};
 ghost use Rattle.jasmin_instructions.specs.Saying.{Says};
 ghost use Rattle.jasmin_instructions.specs.Views.{two_texts};
@@ -16,7 +16,7 @@ use jasmin::source::{FieldName, Operation};
 use jasmin::statement::Flaw;
 use jasmin::token::{Lexeme, Token};
 use jasmin_operands::{
-    Judged, asked, class_of, exactly, field_descriptor_at, is_member_field, name_of, operand,
+    Judged, class_of, exactly, field_descriptor_at, is_member_field, judge_test, name_of, operand,
     word_at,
 };
 use jvms_file::insn::FieldUse;
@@ -26,19 +26,19 @@ use std::alloc::Global;
 
 /// Judges a place that requires `class/name` of a field.
 fn member_at(lexeme: Option<&Lexeme>) -> Judged<&[u16]>
-    ensures { said (λ w. w.now) result
-        ≡ tested (is_member is_name) Flaw.Name (word_at (option_map (λ l. l.now) lexeme.entry)) }
+    ensures { map_ok (λ w. w.now) result
+        ≡ word_if (is_member is_name) Flaw.Name (word_at (option_map (λ l. l.now) lexeme.entry)) }
 {
     let word = word_at(lexeme)?;
-    asked(is_member_field(word), Flaw::Name)?;
+    judge_test(is_member_field(word), Flaw::Name)?;
     Ok(word)
 }
 
 /// Judges `class/name` of a field, and the descriptor that follows it.
 fn field_at(tokens: &[Token]) -> Judged<(&[u16], &[u16])>
     ensures { let ts = lexemes tokens.now in
-        said two_texts result
-        ≡ both (tested (is_member is_name) Flaw.Name (word_at (slice_get ts 0)))
+        map_ok two_texts result
+        ≡ both (word_if (is_member is_name) Flaw.Name (word_at (slice_get ts 0)))
         (field_descriptor_at (slice_get ts 1)) }
 {
     two_words(
@@ -50,8 +50,8 @@ fn field_at(tokens: &[Token]) -> Judged<(&[u16], &[u16])>
 /// Judges `class/name` of a field and its descriptor, the only operands.
 fn field_parts(tokens: &[Token]) -> Judged<(&[u16], &[u16])>
     ensures { let ts = lexemes tokens.now in
-        said two_texts result
-        ≡ unless (both (tested (is_member is_name) Flaw.Name (word_at (slice_get ts 0)))
+        map_ok two_texts result
+        ≡ unless (both (word_if (is_member is_name) Flaw.Name (word_at (slice_get ts 0)))
         (field_descriptor_at (slice_get ts 1))) (exactly 2 ts) }
 {
     two_words_unless(field_at(tokens), exactly(2, tokens))

@@ -2,7 +2,7 @@
 
 ghost use Rattle.std.specs.Prelude.{◌≡◌};
 ghost use Rattle.jasmin.specs.Lexing.{lexemes};
-ghost use Rattle.jasmin.specs.Judgements.{said};
+ghost use Rattle.jasmin.specs.Judgements.{map_ok};
 ghost use Rattle.jasmin.specs.Operands.{exactly, i8_at, i16_at, i32_at, i64_at, u16_at};
 ghost use Rattle.jasmin.specs.Statements.{alone, increment_operation, branch_operation, new_array_operation, instruction_with, instruction_line};
 ghost use Rattle.jasmin_instructions.specs.Saying.{Says};

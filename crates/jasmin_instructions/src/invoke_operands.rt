@@ -7,8 +7,8 @@ ghost use Rattle.jvms_file.specs.Names.{is_method_name};
 ghost use Rattle.jvms_file.specs.Members.{is_method_descriptor_for};
 ghost use Rattle.jvms_file.specs.Instructions.{interface_count};
 ghost use Rattle.jasmin.specs.Lexing.{lexemes};
-ghost use Rattle.jasmin.specs.Judgements.{said, unless};
-ghost use Rattle.jasmin.specs.Operands.{tested, is_member, before_descriptor, descriptor_of};
+ghost use Rattle.jasmin.specs.Judgements.{map_ok, unless};
+ghost use Rattle.jasmin.specs.Operands.{word_if, is_member, before_descriptor, descriptor_of};
 ghost use Rattle.jasmin.specs.Statements.{named_method, method_at, is_count, counted_at, operands_after_method, invoke_operation};
 ghost use Rattle.jasmin_instructions.specs.Saying.{Says};
 ghost use Rattle.jasmin_instructions.specs.Views.{two_texts};
@@ -21,8 +21,8 @@ use jasmin::source::{MethodName, Operation};
 use jasmin::statement::Flaw;
 use jasmin::token::{Lexeme, Token};
 use jasmin_operands::{
-    Judged, asked, before_descriptor, class_of, descriptor_of, exactly, is_member_method, name_of,
-    operand, u8_at, unless, word_at, word_or_none,
+    Judged, before_descriptor, class_of, descriptor_of, exactly, is_member_method, judge_test,
+    name_of, operand, u8_at, unless, word_at, word_or_none,
 };
 use jvms_file::insn::Invoke;
 use shared_data::boxed::Boxed;
@@ -31,38 +31,38 @@ use std::alloc::Global;
 
 /// Judges `class/name` in the word of a method.
 fn method_member(word: &[u16]) -> Judged<&[u16]>
-    ensures { said (λ w. w.now) result
-        ≡ tested (is_member is_method_name) Flaw.Name (Ok (before_descriptor word.now)) }
+    ensures { map_ok (λ w. w.now) result
+        ≡ word_if (is_member is_method_name) Flaw.Name (Ok (before_descriptor word.now)) }
 {
     let member = before_descriptor(word);
-    asked(is_member_method(member), Flaw::Name)?;
+    judge_test(is_member_method(member), Flaw::Name)?;
     Ok(member)
 }
 
 /// Judges the descriptor in the word of a method.
 fn method_descriptor(word: &[u16]) -> Judged<&[u16]>
-    ensures { said (λ w. w.now) result
-        ≡ tested (is_method_descriptor_for true) Flaw.Descriptor (Ok (descriptor_of word.now)) }
+    ensures { map_ok (λ w. w.now) result
+        ≡ word_if (is_method_descriptor_for true) Flaw.Descriptor (Ok (descriptor_of word.now)) }
 {
     let descriptor = descriptor_of(word);
-    asked(is_method_descriptor_for(true, descriptor), Flaw::Descriptor)?;
+    judge_test(is_method_descriptor_for(true, descriptor), Flaw::Descriptor)?;
     Ok(descriptor)
 }
 
 /// Judges `class/name` and the descriptor in the word of a method that the instruction may invoke.
 fn named_method(how: Invoke, word: &[u16]) -> Judged<(&[u16], &[u16])>
-    ensures { said two_texts result ≡ named_method how word.now }
+    ensures { map_ok two_texts result ≡ named_method how word.now }
 {
     let is_invocable = is_invocable_name(how, name_of(before_descriptor(word)));
     two_words_unless(
         two_words(method_member(word), method_descriptor(word)),
-        asked(is_invocable, Flaw::Operand),
+        judge_test(is_invocable, Flaw::Operand),
     )
 }
 
 /// Judges a place that requires `class/name` of a method, directly followed by its descriptor.
 fn method_at(how: Invoke, lexeme: Option<&Lexeme>) -> Judged<(&[u16], &[u16])>
-    ensures { said two_texts result ≡ method_at how (option_map (λ l. l.now) lexeme.entry) }
+    ensures { map_ok two_texts result ≡ method_at how (option_map (λ l. l.now) lexeme.entry) }
 {
     named_method(how, word_at(lexeme)?)
 }
@@ -82,7 +82,7 @@ fn is_count(count: u8, descriptor: &[u16]) -> bool
 fn counted_at(descriptor: &[u16], count: Judged<u8>) -> Judged<()>
     ensures { result ≡ counted_at descriptor.now count }
 {
-    asked(is_count(count?, descriptor), Flaw::Operand)
+    judge_test(is_count(count?, descriptor), Flaw::Operand)
 }
 
 /// Judges what follows the method: the count of an `invokeinterface`, or nothing.
@@ -103,7 +103,7 @@ fn operands_after_method(how: Invoke, tokens: &[Token]) -> Judged<()>
 
 /// Judges all operands of an invoke instruction, and returns `class/name` and the descriptor.
 fn method_parts(how: Invoke, tokens: &[Token]) -> Judged<(&[u16], &[u16])>
-    ensures { said two_texts result ≡ unless (method_at how (slice_get (lexemes tokens.now) 0))
+    ensures { map_ok two_texts result ≡ unless (method_at how (slice_get (lexemes tokens.now) 0))
         (operands_after_method how (lexemes tokens.now)) }
 {
     two_words_unless(

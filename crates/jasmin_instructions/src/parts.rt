@@ -2,7 +2,7 @@
 
 ghost use Rattle.std.specs.Prelude.{◌≡◌};
 ghost use Rattle.jasmin.specs.Lexing.{lexemes};
-ghost use Rattle.jasmin.specs.Judgements.{both, said, unless};
+ghost use Rattle.jasmin.specs.Judgements.{both, map_ok, unless};
 ghost use Rattle.jasmin.specs.Operands.{exactly};
 ghost use Rattle.jasmin_instructions.specs.Views.{two_texts};
 
@@ -11,15 +11,15 @@ use jasmin_operands::{Judged, both, exactly, unless};
 
 /// Returns the word, or the fault of the lesser number of both judgements.
 pub fn word_unless(word: Judged<&[u16]>, other: Judged<()>) -> Judged<&[u16]>
-    ensures { said (λ w. w.now) result ≡ unless (said (λ w. w.now) word.entry) other }
+    ensures { map_ok (λ w. w.now) result ≡ unless (map_ok (λ w. w.now) word.entry) other }
 {
     unless(word, other)
 }
 
 /// Judges a word that has to be the only operand.
 pub fn alone<'a>(word: Judged<&'a [u16]>, tokens: &[Token]) -> Judged<&'a [u16]>
-    ensures { said (λ w. w.now) result
-        ≡ unless (said (λ w. w.now) word.entry) (exactly 1 (lexemes tokens.now)) }
+    ensures { map_ok (λ w. w.now) result
+        ≡ unless (map_ok (λ w. w.now) word.entry) (exactly 1 (lexemes tokens.now)) }
 {
     word_unless(word, exactly(1, tokens))
 }
@@ -29,8 +29,8 @@ pub fn two_words<'a>(
     first: Judged<&'a [u16]>,
     second: Judged<&'a [u16]>,
 ) -> Judged<(&'a [u16], &'a [u16])>
-    ensures { said two_texts result
-        ≡ both (said (λ w. w.now) first.entry) (said (λ w. w.now) second.entry) }
+    ensures { map_ok two_texts result
+        ≡ both (map_ok (λ w. w.now) first.entry) (map_ok (λ w. w.now) second.entry) }
 {
     both(first, second)
 }
@@ -41,7 +41,7 @@ pub fn two_words_unless<'a>(
     words: Judged<(&'a [u16], &'a [u16])>,
     other: Judged<()>,
 ) -> Judged<(&'a [u16], &'a [u16])>
-    ensures { said two_texts result ≡ unless (said two_texts words.entry) other }
+    ensures { map_ok two_texts result ≡ unless (map_ok two_texts words.entry) other }
 {
     unless(words, other)
 }

@@ -2,7 +2,7 @@
 
 ghost use Rattle.std.specs.Prelude.{◌≡◌, ◌<◌, length, IfOk, IfSome};
 ghost use Rattle.std.specs.Option.{option_map};
-ghost use Rattle.jasmin.specs.Lexing.{digit, four_digits, escaped, digits_from, escape_from, unit_from, units_from, text_from};
+ghost use Rattle.jasmin.specs.Lexing.{digit, four_digits, unit_of_escape, digits_from, escape_from, unit_from, units_from, text_from};
 ghost use Rattle.jasmin_lex.specs.Lexed.{IsLexed};
 
 use crate::fault::LexFault;
@@ -42,7 +42,7 @@ fn four_digits(a: u16, b: u16, c: u16, d: u16) -> Option<u16>
 
 /// Returns the unit that a letter after a backslash denotes.
 fn letter(unit: u16) -> Option<u16>
-    ensures { result ≡ escaped unit }
+    ensures { result ≡ unit_of_escape unit }
 {
     if unit == 110 {
         Some(10)

@@ -2,17 +2,17 @@
 use Rattle.std.proofs.Common.{◌≡◌, ◌<◌, ◌≤◌, Ok, Err, refl, ap, sym, ◌∙◌, ◌⊎◌, inl, inr, arith}
 use Rattle.std.proofs.lemmas.Bool.{le-leb, lt-leb, cases_lt}
 use Rattle.jasmin.specs.declared.statement.Flaw.{Flaw}
-use Rattle.jasmin.specs.Judgements.{Judged, number, lesser, both, said, unless}
+use Rattle.jasmin.specs.Judgements.{Judged, number, lesser, both, map_ok, unless}
 
 -- ---- Mapped judgements
 
-pub said_both : {A B C D : Type 0} (f : A → C) (g : B → D) (a : Judged A) (b : Judged B) → said (λ p. (f p.0, g p.1)) (both a b) ≡ both (said f a) (said g b)
+pub said_both : {A B C D : Type 0} (f : A → C) (g : B → D) (a : Judged A) (b : Judged B) → map_ok (λ p. (f p.0, g p.1)) (both a b) ≡ both (map_ok f a) (map_ok g b)
 said_both f g (Ok a) (Ok b) = refl
 said_both f g (Ok a) (Err v) = refl
 said_both f g (Err u) (Ok b) = refl
 said_both f g (Err u) (Err v) = refl
 
-pub said_unless : {A B : Type 0} (f : A → B) (a : Judged A) (o : Judged (Unit {0})) → said f (unless a o) ≡ unless (said f a) o
+pub said_unless : {A B : Type 0} (f : A → B) (a : Judged A) (o : Judged (Unit {0})) → map_ok f (unless a o) ≡ unless (map_ok f a) o
 said_unless f (Ok a) (Ok o) = refl
 said_unless f (Ok a) (Err v) = refl
 said_unless f (Err u) (Ok o) = refl

@@ -5,7 +5,7 @@ ghost use Rattle.jasmin.specs.Lexing.{lexemes};
 ghost use Rattle.jasmin.specs.Operands.{flag_of, flag_at, flags_with, flags_in, access_word, access_words};
 ghost use Rattle.jasmin_operands.specs.Views.{words_of};
 
-use crate::judgement::{Judged, asked, unless};
+use crate::judgement::{Judged, judge_test, unless};
 use descriptor::is_text;
 use jasmin::statement::Flaw;
 use jasmin::token::{Lexeme, Token};
@@ -112,7 +112,7 @@ fn access_word(words: AccessWords, before: u16, lexeme: &Lexeme) -> Judged<()>
 {
     match lexeme {
         Lexeme::Word(units) => match flag_in(access_table(words), units.as_slice()) {
-            Some(flag) => asked(before & flag == 0, Flaw::Flags),
+            Some(flag) => judge_test(before & flag == 0, Flaw::Flags),
             None => Err(Flaw::Flags),
         },
         _ => Err(Flaw::Operand),

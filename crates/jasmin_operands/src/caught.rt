@@ -2,7 +2,7 @@
 
 ghost use Rattle.std.specs.Prelude.{◌≡◌};
 ghost use Rattle.std.specs.Option.{option_map};
-ghost use Rattle.jasmin.specs.Judgements.{said};
+ghost use Rattle.jasmin.specs.Judgements.{map_ok};
 ghost use Rattle.jasmin.specs.Operands.{caught_at};
 ghost use Rattle.jasmin_operands.specs.Views.{caught_of};
 
@@ -27,7 +27,7 @@ pub enum CaughtName<'a> {
 ///
 /// Returns `Operand` if there is no word, and `Name` if the word is none of these.
 pub fn caught_at(lexeme: Option<&Lexeme>) -> Judged<CaughtName<'_>>
-    ensures { said caught_of result ≡ caught_at (option_map (λ l. l.now) lexeme.entry) }
+    ensures { map_ok caught_of result ≡ caught_at (option_map (λ l. l.now) lexeme.entry) }
 {
     let word = word_at(lexeme)?;
     if is_text("all", word) {

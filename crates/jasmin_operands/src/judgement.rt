@@ -1,7 +1,7 @@
 //! Combines the judgements of the parts of a line.
 
 ghost use Rattle.std.specs.Prelude.{◌≡◌};
-ghost use Rattle.jasmin.specs.Judgements.{number, lesser, both, unless, asked};
+ghost use Rattle.jasmin.specs.Judgements.{number, lesser, both, unless, judge_test};
 
 use jasmin::statement::Flaw;
 
@@ -51,8 +51,8 @@ pub fn unless<A: Drop>(judged: Judged<A>, other: Judged<()>) -> Judged<A>
 }
 
 /// Returns no value if the test holds, or else the fault.
-pub fn asked(test: bool, flaw: Flaw) -> Judged<()>
-    ensures { result ≡ asked test flaw }
+pub fn judge_test(test: bool, flaw: Flaw) -> Judged<()>
+    ensures { result ≡ judge_test test flaw }
 {
     if test { Ok(()) } else { Err(flaw) }
 }

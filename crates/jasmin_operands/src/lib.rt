@@ -16,7 +16,7 @@ mod words;
 pub use access::{AccessWords, access_table, access_words, flags_in};
 pub use array_type::array_type_at;
 pub use caught::{CaughtName, caught_at};
-pub use judgement::{Judged, asked, both, lesser, unless};
+pub use judgement::{Judged, both, judge_test, lesser, unless};
 pub use members::{
     before_descriptor, class_of, descriptor_of, is_member_field, is_member_method, name_of,
 };

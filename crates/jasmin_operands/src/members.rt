@@ -9,7 +9,7 @@ use crate::letters::{PARENTHESIS, SLASH};
 use descriptor::{is_class_entry_name, is_method_name, is_name};
 
 /// Returns the number of units after the last slash, or of all units if there is no slash.
-fn behind_slash(word: &[u16]) -> usize
+fn after_slash(word: &[u16]) -> usize
     ensures exact { result ≡ suffix_len (λ u. not (is_slash u)) word.now }
     ensures within { result ≤ length word.now }
 {
@@ -20,7 +20,7 @@ fn behind_slash(word: &[u16]) -> usize
 pub fn class_of(word: &[u16]) -> &[u16]
     ensures { result.now ≡ class_of word.now }
 {
-    let name = word.len() - behind_slash(word);
+    let name = word.len() - after_slash(word);
     &word[..name.saturating_sub(1)]
 }
 
@@ -28,7 +28,7 @@ pub fn class_of(word: &[u16]) -> &[u16]
 pub fn name_of(word: &[u16]) -> &[u16]
     ensures { result.now ≡ name_of word.now }
 {
-    &word[word.len() - behind_slash(word)..]
+    &word[word.len() - after_slash(word)..]
 }
 
 /// Returns the number of units before the first parenthesis, or of all units if there is none.

@@ -150,7 +150,7 @@ fn before_dot(word: &[u16]) -> usize
 }
 
 /// Returns the units after a place.
-fn behind(word: &[u16], place: usize) -> &[u16]
+fn after(word: &[u16], place: usize) -> &[u16]
     ensures { result.now ≡ drop (place + 1) word.now }
 {
     if place < word.len() {
@@ -165,5 +165,5 @@ pub fn is_version(word: &[u16]) -> bool
     ensures { result ≡ is_version word.now }
 {
     let dot = before_dot(word);
-    is_from_to(45, 50, &word[..dot]) && is_from_to(0, 65535, behind(word, dot))
+    is_from_to(45, 50, &word[..dot]) && is_from_to(0, 65535, after(word, dot))
 }

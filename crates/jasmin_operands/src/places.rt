@@ -5,7 +5,7 @@ ghost use Rattle.std.specs.Option.{option_map};
 ghost use Rattle.jasmin.specs.Lexing.{lexemes};
 ghost use Rattle.jasmin.specs.Operands.{exactly};
 
-use crate::judgement::{Judged, asked};
+use crate::judgement::{Judged, judge_test};
 use jasmin::statement::Flaw;
 use jasmin::token::{Lexeme, Token};
 
@@ -24,5 +24,5 @@ pub fn operand(tokens: &[Token], place: usize) -> Option<&Lexeme>
 pub fn exactly(count: usize, tokens: &[Token]) -> Judged<()>
     ensures { result ≡ exactly count (lexemes tokens.now) }
 {
-    asked(tokens.len() == count, Flaw::Operand)
+    judge_test(tokens.len() == count, Flaw::Operand)
 }

@@ -2,11 +2,11 @@
 
 ghost use Rattle.std.specs.Prelude.{◌≡◌};
 ghost use Rattle.std.specs.Option.{option_map};
-ghost use Rattle.jasmin.specs.Judgements.{said};
+ghost use Rattle.jasmin.specs.Judgements.{map_ok};
 ghost use Rattle.jasmin.specs.Operands.{word_at, keyword_at, name_at, class_name_at, class_at, field_descriptor_at, is_label, label_at};
 ghost use Rattle.jasmin.specs.Statements.{word_or_none};
 
-use crate::judgement::{Judged, asked};
+use crate::judgement::{Judged, judge_test};
 use crate::letters::{DOT, MINUS, NINE, PLUS, ZERO};
 use descriptor::{is_class_entry_name, is_class_name, is_field_descriptor, is_name, is_text};
 use jasmin::statement::Flaw;
@@ -18,7 +18,7 @@ use jasmin::token::Lexeme;
 ///
 /// Returns `Operand` if there is another token or none.
 pub fn word_at(lexeme: Option<&Lexeme>) -> Judged<&[u16]>
-    ensures { said (λ w. w.now) result ≡ word_at (option_map (λ l. l.now) lexeme.entry) }
+    ensures { map_ok (λ w. w.now) result ≡ word_at (option_map (λ l. l.now) lexeme.entry) }
 {
     match lexeme {
         Some(Lexeme::Word(units)) => Ok(units.as_slice()),
@@ -45,7 +45,7 @@ pub fn keyword_at(text: &str, lexeme: Option<&Lexeme>) -> Judged<()>
     ensures { result ≡ keyword_at text.now (option_map (λ l. l.now) lexeme.entry) }
 {
     let word = word_at(lexeme)?;
-    asked(is_text(text, word), Flaw::Operand)
+    judge_test(is_text(text, word), Flaw::Operand)
 }
 
 /// Judges a place that requires the name of a field or a local variable (JVMS 4.2.2).
@@ -54,10 +54,10 @@ pub fn keyword_at(text: &str, lexeme: Option<&Lexeme>) -> Judged<()>
 ///
 /// Returns `Operand` if there is no word, and `Name` if the word is no name.
 pub fn name_at(lexeme: Option<&Lexeme>) -> Judged<&[u16]>
-    ensures { said (λ w. w.now) result ≡ name_at (option_map (λ l. l.now) lexeme.entry) }
+    ensures { map_ok (λ w. w.now) result ≡ name_at (option_map (λ l. l.now) lexeme.entry) }
 {
     let word = word_at(lexeme)?;
-    asked(is_name(word), Flaw::Name)?;
+    judge_test(is_name(word), Flaw::Name)?;
     Ok(word)
 }
 
@@ -67,10 +67,10 @@ pub fn name_at(lexeme: Option<&Lexeme>) -> Judged<&[u16]>
 ///
 /// Returns `Operand` if there is no word, and `Name` if the word is no class's name.
 pub fn class_name_at(lexeme: Option<&Lexeme>) -> Judged<&[u16]>
-    ensures { said (λ w. w.now) result ≡ class_name_at (option_map (λ l. l.now) lexeme.entry) }
+    ensures { map_ok (λ w. w.now) result ≡ class_name_at (option_map (λ l. l.now) lexeme.entry) }
 {
     let word = word_at(lexeme)?;
-    asked(is_class_name(word), Flaw::Name)?;
+    judge_test(is_class_name(word), Flaw::Name)?;
     Ok(word)
 }
 
@@ -80,10 +80,10 @@ pub fn class_name_at(lexeme: Option<&Lexeme>) -> Judged<&[u16]>
 ///
 /// Returns `Operand` if there is no word, and `Name` if the word is neither.
 pub fn class_at(lexeme: Option<&Lexeme>) -> Judged<&[u16]>
-    ensures { said (λ w. w.now) result ≡ class_at (option_map (λ l. l.now) lexeme.entry) }
+    ensures { map_ok (λ w. w.now) result ≡ class_at (option_map (λ l. l.now) lexeme.entry) }
 {
     let word = word_at(lexeme)?;
-    asked(is_class_entry_name(word), Flaw::Name)?;
+    judge_test(is_class_entry_name(word), Flaw::Name)?;
     Ok(word)
 }
 
@@ -93,11 +93,11 @@ pub fn class_at(lexeme: Option<&Lexeme>) -> Judged<&[u16]>
 ///
 /// Returns `Operand` if there is no word, and `Descriptor` if the word is no descriptor.
 pub fn field_descriptor_at(lexeme: Option<&Lexeme>) -> Judged<&[u16]>
-    ensures { said (λ w. w.now) result
+    ensures { map_ok (λ w. w.now) result
         ≡ field_descriptor_at (option_map (λ l. l.now) lexeme.entry) }
 {
     let word = word_at(lexeme)?;
-    asked(is_field_descriptor(word), Flaw::Descriptor)?;
+    judge_test(is_field_descriptor(word), Flaw::Descriptor)?;
     Ok(word)
 }
 
@@ -117,9 +117,9 @@ fn is_label(word: &[u16]) -> bool
 ///
 /// Returns `Operand` if there is no word, and `Name` if the word is no label.
 pub fn label_at(lexeme: Option<&Lexeme>) -> Judged<&[u16]>
-    ensures { said (λ w. w.now) result ≡ label_at (option_map (λ l. l.now) lexeme.entry) }
+    ensures { map_ok (λ w. w.now) result ≡ label_at (option_map (λ l. l.now) lexeme.entry) }
 {
     let word = word_at(lexeme)?;
-    asked(is_label(word), Flaw::Name)?;
+    judge_test(is_label(word), Flaw::Name)?;
     Ok(word)
 }

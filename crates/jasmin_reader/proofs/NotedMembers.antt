@@ -11,7 +11,7 @@ use Rattle.jasmin.specs.declared.source.FieldLine.{FieldLine}
 use Rattle.jasmin.specs.declared.source.MethodLines.{MethodLines}
 use Rattle.jasmin.specs.declared.statement.Statement.{Statement}
 use Rattle.jasmin.specs.declared.statement.Statement.TheVariants as statement
-use Rattle.jasmin.specs.Reading.{is_field_like, is_method_like, ended, with_method, with_statement}
+use Rattle.jasmin.specs.Reading.{is_field_like, is_method_like, method_lines_of, with_method, with_statement}
 use Rattle.jasmin_reader.specs.declared.members.Members.{Members}
 use Rattle.jasmin_reader.specs.Members.{has_member, AreFields, AreMethods, FollowsFields, FollowsMethods}
 
@@ -80,7 +80,7 @@ method_more old new methods m are more = λ n d.
     ∙ sym (list_any-append (is_method_like n d) methods (m ∷ []))
 
 method_ends : (old new : Members) (m : OpenMethod) (r : Reading) → OneMore old new m.name m.descriptor → AreMethods old r.methods → AreMethods new (with_method (Some m) r).methods
-method_ends old new m r more are = method_more old new r.methods (ended m) are more
+method_ends old new m r more are = method_more old new r.methods (method_lines_of m) are more
 
 method_follows : (old new : Members) (m : OpenMethod) → OneMore old new m.name m.descriptor → FollowsMethods old new (Some m) statement.EndMethod
 unfolding with_statement

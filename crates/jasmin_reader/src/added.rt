@@ -1,7 +1,7 @@
 //! Adds a statement to the state of the reader.
 
 ghost use Rattle.std.specs.Prelude.{◌≡◌, OnOk, Some, ◌++◌, ◌∷◌, []};
-ghost use Rattle.jasmin.specs.Reading.{ended, with_method, with_statement, opened};
+ghost use Rattle.jasmin.specs.Reading.{method_lines_of, with_method, with_statement, new_method};
 
 use crate::in_method::{
     with_catch, with_default, with_instruction, with_label, with_labelled_instruction, with_match,
@@ -15,8 +15,8 @@ use shared_data::shared::Text;
 use std::alloc::{AllocError, Global};
 
 /// Returns a method after its head.
-fn opened(alloc: Global, access: u16, name: Text, descriptor: Text) -> OpenMethod
-    ensures { result ≡ opened access name descriptor }
+fn new_method(alloc: Global, access: u16, name: Text, descriptor: Text) -> OpenMethod
+    ensures { result ≡ new_method access name descriptor }
 {
     OpenMethod {
         access,
@@ -32,8 +32,8 @@ fn opened(alloc: Global, access: u16, name: Text, descriptor: Text) -> OpenMetho
 }
 
 /// Returns the closed method. A limit that no line gives is 1.
-fn ended(method: OpenMethod) -> MethodLines
-    ensures { result ≡ ended method }
+fn method_lines_of(method: OpenMethod) -> MethodLines
+    ensures { result ≡ method_lines_of method }
 {
     MethodLines {
         access: method.access,
@@ -52,7 +52,7 @@ fn with_end(reading: &mut Reading) -> Result<(), AllocError>
     ensures { OnOk result (reading.new ≡ with_method reading.old.method reading.old) }
 {
     match reading.method.take() {
-        Some(method) => reading.methods.push(ended(method)),
+        Some(method) => reading.methods.push(method_lines_of(method)),
         None => Ok(()),
     }
 }
@@ -97,7 +97,7 @@ pub(crate) fn with_statement(
             descriptor,
         } => {
             reading.part = Part::Members;
-            reading.method = Some(opened(alloc, access, name, descriptor));
+            reading.method = Some(new_method(alloc, access, name, descriptor));
         }
         Statement::EndMethod => with_end(reading)?,
         Statement::MaxStack(limit) => with_max_stack(&mut reading.method, limit),

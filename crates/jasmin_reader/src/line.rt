@@ -2,7 +2,7 @@
 
 ghost use Rattle.jasmin.specs.Sources.{units_of};
 ghost use Rattle.jasmin.specs.Lexing.{lexemes};
-ghost use Rattle.jasmin.specs.Reading.{added, placed, with_lexemes, with_line};
+ghost use Rattle.jasmin.specs.Reading.{judge_statement, judge_line, with_lexemes, with_line};
 ghost use Rattle.jasmin_instructions.specs.Saying.{Says};
 
 use crate::open::Open;
@@ -20,8 +20,8 @@ use std::alloc::Global;
 /// # Errors
 ///
 /// Returns `Repeated` for any other, or `Memory` if memory ran out.
-fn added(alloc: Global, before: Open, statement: Statement) -> Result<Open, LineFault>
-    ensures { Says result (added before statement) }
+fn judge_statement(alloc: Global, before: Open, statement: Statement) -> Result<Open, LineFault>
+    ensures { Says result (judge_statement before statement) }
 {
     if before.is_repeated(&statement)? {
         return Err(LineFault::Flaw(Flaw::Repeated));
@@ -34,8 +34,13 @@ fn added(alloc: Global, before: Open, statement: Statement) -> Result<Open, Line
 /// # Errors
 ///
 /// Returns the line's fault, or `Memory` if memory ran out.
-fn placed(alloc: Global, before: Open, kind: LineKind, tokens: &[Token]) -> Result<Open, LineFault>
-    ensures { Says result (placed before kind (lexemes tokens.now)) }
+fn judge_line(
+    alloc: Global,
+    before: Open,
+    kind: LineKind,
+    tokens: &[Token],
+) -> Result<Open, LineFault>
+    ensures { Says result (judge_line before kind (lexemes tokens.now)) }
 {
     let reading = before.reading();
     if !is_in_place(reading, kind) {
@@ -43,7 +48,7 @@ fn placed(alloc: Global, before: Open, kind: LineKind, tokens: &[Token]) -> Resu
     }
     let sort = sort_of(reading.access);
     let statement = statement_of(alloc, sort, switch_of(reading), kind, tokens)?;
-    added(alloc, before, statement?)
+    judge_statement(alloc, before, statement?)
 }
 
 /// Judges the line of these tokens, and adds its statement.
@@ -51,7 +56,7 @@ fn with_tokens(alloc: Global, before: Open, tokens: &[Token]) -> Result<Open, Li
     ensures { Says result (with_lexemes before (lexemes tokens.now)) }
 {
     let kind = kind_of(switch_of(before.reading()), tokens)?;
-    placed(alloc, before, kind, tokens)
+    judge_line(alloc, before, kind, tokens)
 }
 
 /// Returns the state of the reader after a line.

@@ -3,7 +3,7 @@
 ghost use Rattle.std.specs.Prelude.{◌≡◌, ℕ, List, length, IfOk, codes};
 ghost use Rattle.std.specs.Option.{unwrap_or};
 ghost use Rattle.std.specs.Str.Lines.{lines};
-ghost use Rattle.jasmin.specs.Reading.{empty_reading, with_lines, last_line, finished, source_of};
+ghost use Rattle.jasmin.specs.Reading.{empty_reading, with_lines, last_line, source_of_reading, source_of};
 ghost use Rattle.jasmin_reader.specs.Readings.{Reads, IsRead};
 
 use crate::fault::SourceFault;
@@ -56,8 +56,8 @@ fn superclass_of(alloc: Global, superclass: Option<Text>) -> Result<Text, AllocE
 /// # Errors
 ///
 /// Returns `Missing` for any other, or `Memory` if memory ran out.
-fn finished(alloc: Global, last: usize, reading: Reading) -> Result<Source, SourceFault>
-    ensures { IsRead result (finished last reading) }
+fn source_of_reading(alloc: Global, last: usize, reading: Reading) -> Result<Source, SourceFault>
+    ensures { IsRead result (source_of_reading last reading) }
 {
     match (reading.name, reading.method) {
         (Some(name), None) => Ok(Source {
@@ -81,5 +81,5 @@ pub(crate) fn read_tree(alloc: Global, text: &str) -> Result<Source, SourceFault
     ensures exact { IsRead result (source_of text.now) }
 {
     let (read, count) = with_lines(alloc, text)?;
-    finished(alloc, last_line(count), read.into_reading())
+    source_of_reading(alloc, last_line(count), read.into_reading())
 }

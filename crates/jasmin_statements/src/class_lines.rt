@@ -3,7 +3,7 @@
 ghost use Rattle.std.specs.Prelude.{◌≡◌};
 ghost use Rattle.std.specs.Option.{option_map};
 ghost use Rattle.jasmin.specs.Lexing.{lexemes};
-ghost use Rattle.jasmin.specs.Judgements.{said, unless};
+ghost use Rattle.jasmin.specs.Judgements.{map_ok, unless};
 ghost use Rattle.jasmin.specs.Operands.{class_words, access_words, class_name_at};
 ghost use Rattle.jasmin.specs.Statements.{version_at, bytecode_line, file_at, source_line, but_last, last_of, class_line, super_line, implements_line};
 ghost use Rattle.jasmin_instructions.specs.Saying.{Says};
@@ -13,8 +13,8 @@ use jasmin::statement::{Flaw, Statement};
 use jasmin::token::{Lexeme, Token};
 use jasmin_instructions::{LineFault, alone, word_unless};
 use jasmin_operands::{
-    AccessWords, Judged, access_words, asked, both, class_name_at, exactly, flags_in, is_version,
-    operand,
+    AccessWords, Judged, access_words, both, class_name_at, exactly, flags_in, is_version,
+    judge_test, operand,
 };
 use shared_data::texts::copied_text;
 use std::alloc::Global;
@@ -25,7 +25,7 @@ fn version_at(lexeme: Option<&Lexeme>) -> Judged<()>
 {
     match lexeme {
         None => Err(Flaw::Operand),
-        Some(Lexeme::Word(word)) => asked(is_version(word.as_slice()), Flaw::Number),
+        Some(Lexeme::Word(word)) => judge_test(is_version(word.as_slice()), Flaw::Number),
         Some(_) => Err(Flaw::Number),
     }
 }
@@ -60,7 +60,7 @@ pub(crate) fn source_line(tokens: &[Token]) -> Judged<Statement>
 
 /// Judges the access words and the name of a class, and returns the name.
 fn class_head(tokens: &[Token]) -> Judged<&[u16]>
-    ensures { said (λ w. w.now) result ≡ unless (class_name_at (last_of (lexemes tokens.now)))
+    ensures { map_ok (λ w. w.now) result ≡ unless (class_name_at (last_of (lexemes tokens.now)))
         (access_words class_words (but_last (lexemes tokens.now))) }
 {
     word_unless(

@@ -3,7 +3,7 @@
 ghost use Rattle.std.specs.Prelude.{◌≡◌, IfOk, codes, slice_get};
 ghost use Rattle.std.specs.Option.{option_map};
 ghost use Rattle.jasmin.specs.Lexing.{lexemes};
-ghost use Rattle.jasmin.specs.Judgements.{both, said, unless};
+ghost use Rattle.jasmin.specs.Judgements.{both, map_ok, unless};
 ghost use Rattle.jasmin.specs.Operands.{caught_at, exactly, keyword_at, label_at, name_at, field_descriptor_at, u16_at};
 ghost use Rattle.jasmin.specs.Statements.{limit_at, limit_line, label_after, catch_line, throws_line, line_line, var_line};
 ghost use Rattle.jasmin_operands.specs.Views.{caught_of};
@@ -56,7 +56,7 @@ fn label_after<'a>(
     before: Option<&Lexeme>,
     label: Option<&'a Lexeme>,
 ) -> Judged<&'a [u16]>
-    ensures { said (λ w. w.now) result ≡ unless (label_at (option_map (λ l. l.now) label.entry))
+    ensures { map_ok (λ w. w.now) result ≡ unless (label_at (option_map (λ l. l.now) label.entry))
         (keyword_at word.now (option_map (λ l. l.now) before.entry)) }
 {
     word_unless(label_at(label), keyword_at(word, before))
@@ -69,7 +69,7 @@ type CatchParts<'a> = (CaughtName<'a>, (&'a [u16], (&'a [u16], &'a [u16])));
 #[tactic(auto, using(jasmin_operands::proofs::Judgements::said_both))]
 fn catch_labels(tokens: &[Token]) -> Judged<(&[u16], (&[u16], &[u16]))>
     ensures { let ts = lexemes tokens.now in
-        said (λ p. (p.0.now, (p.1.0.now, p.1.1.now))) result
+        map_ok (λ p. (p.0.now, (p.1.0.now, p.1.1.now))) result
         ≡ both (label_after (codes "from") ts 1)
         (both (label_after (codes "to") ts 3) (label_after (codes "using") ts 5)) }
 {
@@ -83,7 +83,7 @@ fn catch_labels(tokens: &[Token]) -> Judged<(&[u16], (&[u16], &[u16]))>
 #[tactic(auto, using(jasmin_operands::proofs::Judgements::said_both))]
 fn catch_operands(tokens: &[Token]) -> Judged<CatchParts<'_>>
     ensures { let ts = lexemes tokens.now in
-        said (λ p. (caught_of p.0, (p.1.0.now, (p.1.1.0.now, p.1.1.1.now)))) result
+        map_ok (λ p. (caught_of p.0, (p.1.0.now, (p.1.1.0.now, p.1.1.1.now)))) result
         ≡ both (caught_at (slice_get ts 0)) (both (label_after (codes "from") ts 1)
         (both (label_after (codes "to") ts 3) (label_after (codes "using") ts 5))) }
 {
@@ -94,7 +94,7 @@ fn catch_operands(tokens: &[Token]) -> Judged<CatchParts<'_>>
 #[tactic(auto, using(jasmin_operands::proofs::Judgements::said_unless))]
 fn catch_parts(tokens: &[Token]) -> Judged<CatchParts<'_>>
     ensures { let ts = lexemes tokens.now in
-        said (λ p. (caught_of p.0, (p.1.0.now, (p.1.1.0.now, p.1.1.1.now)))) result
+        map_ok (λ p. (caught_of p.0, (p.1.0.now, (p.1.1.0.now, p.1.1.1.now)))) result
         ≡ unless (both (caught_at (slice_get ts 0)) (both (label_after (codes "from") ts 1)
         (both (label_after (codes "to") ts 3) (label_after (codes "using") ts 5)))) (exactly 7 ts) }
 {
@@ -156,7 +156,7 @@ fn var_number(tokens: &[Token]) -> Judged<(u16, ())>
 
 /// Judges the name and the descriptor of a `.var`.
 fn var_name(tokens: &[Token]) -> Judged<(&[u16], &[u16])>
-    ensures { said two_texts result ≡ both (name_at (slice_get (lexemes tokens.now) 2))
+    ensures { map_ok two_texts result ≡ both (name_at (slice_get (lexemes tokens.now) 2))
         (field_descriptor_at (slice_get (lexemes tokens.now) 3)) }
 {
     two_words(
@@ -167,7 +167,7 @@ fn var_name(tokens: &[Token]) -> Judged<(&[u16], &[u16])>
 
 /// Judges the labels of a `.var`.
 fn var_labels(tokens: &[Token]) -> Judged<(&[u16], &[u16])>
-    ensures { said two_texts result ≡ both (label_after (codes "from") (lexemes tokens.now) 4)
+    ensures { map_ok two_texts result ≡ both (label_after (codes "from") (lexemes tokens.now) 4)
         (label_after (codes "to") (lexemes tokens.now) 6) }
 {
     two_words(
@@ -182,9 +182,9 @@ type VarParts<'a> = ((u16, ()), ((&'a [u16], &'a [u16]), (&'a [u16], &'a [u16]))
 
 /// Judges what follows the number of a `.var`: the name, the descriptor and the labels.
 #[tactic(auto, using(jasmin_operands::proofs::Judgements::said_both))]
-fn behind_number(tokens: &[Token]) -> Judged<((&[u16], &[u16]), (&[u16], &[u16]))>
+fn after_number(tokens: &[Token]) -> Judged<((&[u16], &[u16]), (&[u16], &[u16]))>
     ensures { let ts = lexemes tokens.now in
-        said (λ p. (two_texts p.0, two_texts p.1)) result
+        map_ok (λ p. (two_texts p.0, two_texts p.1)) result
         ≡ both
         (both (name_at (slice_get ts 2)) (field_descriptor_at (slice_get ts 3)))
         (both (label_after (codes "from") ts 4) (label_after (codes "to") ts 6)) }
@@ -196,21 +196,21 @@ fn behind_number(tokens: &[Token]) -> Judged<((&[u16], &[u16]), (&[u16], &[u16])
 #[tactic(auto, using(jasmin_operands::proofs::Judgements::said_both))]
 fn var_operands(tokens: &[Token]) -> Judged<VarParts<'_>>
     ensures { let ts = lexemes tokens.now in
-        said (λ p. (p.0, (two_texts p.1.0, two_texts p.1.1))) result
+        map_ok (λ p. (p.0, (two_texts p.1.0, two_texts p.1.1))) result
         ≡ both
         (both (u16_at (slice_get ts 0)) (keyword_at (codes "is") (slice_get ts 1)))
         (both
         (both (name_at (slice_get ts 2)) (field_descriptor_at (slice_get ts 3)))
         (both (label_after (codes "from") ts 4) (label_after (codes "to") ts 6))) }
 {
-    both(var_number(tokens), behind_number(tokens))
+    both(var_number(tokens), after_number(tokens))
 }
 
 /// Judges the operands of a `.var`, which has no others.
 #[tactic(auto, using(jasmin_operands::proofs::Judgements::said_unless))]
 fn var_parts(tokens: &[Token]) -> Judged<VarParts<'_>>
     ensures { let ts = lexemes tokens.now in
-        said (λ p. (p.0, (two_texts p.1.0, two_texts p.1.1))) result
+        map_ok (λ p. (p.0, (two_texts p.1.0, two_texts p.1.1))) result
         ≡ unless
         (both
         (both (u16_at (slice_get ts 0)) (keyword_at (codes "is") (slice_get ts 1)))

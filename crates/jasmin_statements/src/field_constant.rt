@@ -3,7 +3,7 @@
 ghost use Rattle.std.specs.Prelude.{◌≡◌, IfOk};
 ghost use Rattle.std.specs.Option.{option_map};
 ghost use Rattle.jasmin.specs.Lexing.{lexemes};
-ghost use Rattle.jasmin.specs.Judgements.{said};
+ghost use Rattle.jasmin.specs.Judgements.{map_ok};
 ghost use Rattle.jasmin.specs.Statements.{is_long, is_int_type, is_string_type, int_constant, constant_at, constant_in};
 ghost use Rattle.jasmin_statements.specs.Views.{constant_of};
 
@@ -50,7 +50,7 @@ fn is_string_type(descriptor: &[u16]) -> bool
 
 /// Judges a number of 32 bits, the constant of a field of such a type.
 fn int_constant<'a>(descriptor: &[u16], number: Judged<i32>) -> Judged<LentConstant<'a>>
-    ensures { said constant_of result ≡ int_constant descriptor.now number }
+    ensures { map_ok constant_of result ≡ int_constant descriptor.now number }
 {
     let number = number?;
     if is_int_type(descriptor) {
@@ -62,7 +62,7 @@ fn int_constant<'a>(descriptor: &[u16], number: Judged<i32>) -> Judged<LentConst
 
 /// Judges the constant of a field of this type.
 fn constant_at<'a>(descriptor: &[u16], lexeme: Option<&'a Lexeme>) -> Judged<LentConstant<'a>>
-    ensures { said constant_of result
+    ensures { map_ok constant_of result
         ≡ constant_at descriptor.now (option_map (λ l. l.now) lexeme.entry) }
 {
     match lexeme {
@@ -81,7 +81,7 @@ pub(crate) fn constant_in<'a>(
     descriptor: &[u16],
     tokens: Option<&'a [Token]>,
 ) -> Judged<Option<LentConstant<'a>>>
-    ensures { said (λ c. option_map constant_of c) result
+    ensures { map_ok (λ c. option_map constant_of c) result
         ≡ constant_in descriptor.now (option_map (λ ts. lexemes ts.now) tokens.entry) }
 {
     match tokens {

@@ -4,7 +4,7 @@ ghost use Rattle.std.specs.Prelude.{◌≡◌, ◌≤◌, length};
 ghost use Rattle.std.specs.List.{position_or_len};
 ghost use Rattle.std.specs.Option.{option_map};
 ghost use Rattle.jasmin.specs.Lexing.{lexemes};
-ghost use Rattle.jasmin.specs.Judgements.{both, said, unless};
+ghost use Rattle.jasmin.specs.Judgements.{both, map_ok, unless};
 ghost use Rattle.jasmin.specs.Operands.{field_words, access_words, name_at, field_descriptor_at};
 ghost use Rattle.jasmin.specs.Statements.{is_equals, field_head, field_tail, constant_in, word_or_none, field_access, field_name_at, last_of, field_line};
 ghost use Rattle.jasmin_instructions.specs.Saying.{Says};
@@ -85,7 +85,7 @@ fn field_name_at(head: &[Token]) -> Option<&Lexeme>
 
 /// Judges the constant of a field, whose descriptor is the last token of the head.
 fn field_constant<'a>(head: &[Token], tail: Option<&'a [Token]>) -> Judged<Option<LentConstant<'a>>>
-    ensures { said (λ c. option_map constant_of c) result ≡ constant_in
+    ensures { map_ok (λ c. option_map constant_of c) result ≡ constant_in
         (word_or_none (last_of (lexemes head.now))) (option_map (λ ts. lexemes ts.now) tail.entry) }
 {
     constant_in(word_or_none(last_of(head)), tail)
@@ -98,7 +98,7 @@ fn field_type<'a>(
     tail: Option<&'a [Token]>,
 ) -> Judged<(&'a [u16], Option<LentConstant<'a>>)>
     ensures { let last = last_of (lexemes head.now) in
-        said (λ p. (p.0.now, option_map constant_of p.1)) result ≡ both (field_descriptor_at last)
+        map_ok (λ p. (p.0.now, option_map constant_of p.1)) result ≡ both (field_descriptor_at last)
         (constant_in (word_or_none last) (option_map (λ ts. lexemes ts.now) tail.entry)) }
 {
     both(
@@ -111,7 +111,7 @@ fn field_type<'a>(
 #[tactic(auto, using(jasmin_operands::proofs::Judgements::said_both))]
 fn field_operands<'a>(head: &'a [Token], tail: Option<&'a [Token]>) -> Judged<FieldParts<'a>>
     ensures { let last = last_of (lexemes head.now) in
-        said (λ p. (p.0.now, (p.1.0.now, option_map constant_of p.1.1))) result
+        map_ok (λ p. (p.0.now, (p.1.0.now, option_map constant_of p.1.1))) result
         ≡ both (name_at (field_name_at (lexemes head.now))) (both (field_descriptor_at last)
         (constant_in (word_or_none last) (option_map (λ ts. lexemes ts.now) tail.entry))) }
 {
@@ -122,7 +122,7 @@ fn field_operands<'a>(head: &'a [Token], tail: Option<&'a [Token]>) -> Judged<Fi
 #[tactic(auto, using(jasmin_operands::proofs::Judgements::said_unless))]
 fn field_parts<'a>(head: &'a [Token], tail: Option<&'a [Token]>) -> Judged<FieldParts<'a>>
     ensures { let last = last_of (lexemes head.now) in
-        said (λ p. (p.0.now, (p.1.0.now, option_map constant_of p.1.1))) result
+        map_ok (λ p. (p.0.now, (p.1.0.now, option_map constant_of p.1.1))) result
         ≡ unless (both (name_at (field_name_at (lexemes head.now))) (both (field_descriptor_at last)
         (constant_in (word_or_none last) (option_map (λ ts. lexemes ts.now) tail.entry))))
         (access_words field_words (field_access (lexemes head.now))) }

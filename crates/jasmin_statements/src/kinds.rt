@@ -4,7 +4,7 @@ ghost use Rattle.std.specs.Prelude.{◌≡◌, ◌∷◌, ℕ};
 ghost use Rattle.jvms_file.specs.Names.{begins_with};
 ghost use Rattle.jasmin.specs.declared.statement.LineKind.{LineKind as Kind};
 ghost use Rattle.jasmin.specs.Lexing.{lexemes};
-ghost use Rattle.jasmin.specs.Judgements.{said};
+ghost use Rattle.jasmin.specs.Judgements.{map_ok};
 ghost use Rattle.jasmin.specs.LineKinds.{directive_named, directive_kind, instruction_kind, code_kind, is_default, switch_kind, other_kind, kind_of};
 ghost use Rattle.jasmin_statements.specs.Kinds.{labelled_kind};
 
@@ -37,7 +37,7 @@ fn directive_kind(word: &[u16]) -> Judged<LineKind>
 
 /// Returns the opcode that a token names.
 fn opcode_at(token: &Token) -> Judged<u8>
-    ensures { (make : ℕ → Kind) → said make result ≡ instruction_kind make token.now.lexeme }
+    ensures { (make : ℕ → Kind) → map_ok make result ≡ instruction_kind make token.now.lexeme }
 {
     match &token.lexeme {
         Lexeme::Word(word) => match opcode_named(word.as_slice()) {

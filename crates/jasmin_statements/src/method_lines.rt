@@ -4,8 +4,8 @@ ghost use Rattle.std.specs.Prelude.{◌≡◌, ◌||◌, Ok};
 ghost use Rattle.jvms_file.specs.Names.{is_method_name, is_initializer_name};
 ghost use Rattle.jvms_file.specs.Members.{is_static, is_method_descriptor_for};
 ghost use Rattle.jasmin.specs.Lexing.{lexemes};
-ghost use Rattle.jasmin.specs.Judgements.{both, said, unless};
-ghost use Rattle.jasmin.specs.Operands.{method_words, access_words, tested, word_at, before_descriptor, descriptor_of};
+ghost use Rattle.jasmin.specs.Judgements.{both, map_ok, unless};
+ghost use Rattle.jasmin.specs.Operands.{method_words, access_words, word_if, word_at, before_descriptor, descriptor_of};
 ghost use Rattle.jasmin.specs.Statements.{is_permitted, method_head_at, but_last, last_of, method_line, end_line};
 ghost use Rattle.jasmin_instructions.specs.Saying.{Says};
 ghost use Rattle.jasmin_instructions.specs.Views.{two_texts};
@@ -16,8 +16,8 @@ use jasmin::statement::{ClassSort, Flaw, Statement};
 use jasmin::token::Token;
 use jasmin_instructions::{LineFault, is_method_descriptor_for, two_words, two_words_unless};
 use jasmin_operands::{
-    AccessWords, Judged, access_words, asked, before_descriptor, both, descriptor_of, exactly,
-    flags_in, keyword_at, operand, word_at,
+    AccessWords, Judged, access_words, before_descriptor, both, descriptor_of, exactly, flags_in,
+    judge_test, keyword_at, operand, word_at,
 };
 use shared_data::texts::copied_text;
 use std::alloc::Global;
@@ -42,29 +42,29 @@ fn is_on_none(access: u16, name: &[u16]) -> bool
 
 /// Judges the descriptor of a method with these flags and this name.
 fn method_descriptor<'a>(access: u16, name: &[u16], descriptor: &'a [u16]) -> Judged<&'a [u16]>
-    ensures { said (λ w. w.now) result ≡ tested (is_method_descriptor_for (is_static access
+    ensures { map_ok (λ w. w.now) result ≡ word_if (is_method_descriptor_for (is_static access
         || is_initializer_name name.now)) Flaw.Descriptor (Ok descriptor.now) }
 {
     let fits = is_method_descriptor_for(is_on_none(access, name), descriptor);
-    asked(fits, Flaw::Descriptor)?;
+    judge_test(fits, Flaw::Descriptor)?;
     Ok(descriptor)
 }
 
 /// Judges the name in the word of a method.
 fn method_name(word: &[u16]) -> Judged<&[u16]>
-    ensures { said (λ w. w.now) result
-        ≡ tested is_method_name Flaw.Name (Ok (before_descriptor word.now)) }
+    ensures { map_ok (λ w. w.now) result
+        ≡ word_if is_method_name Flaw.Name (Ok (before_descriptor word.now)) }
 {
     let name = before_descriptor(word);
-    asked(is_method_name(name), Flaw::Name)?;
+    judge_test(is_method_name(name), Flaw::Name)?;
     Ok(name)
 }
 
 /// Judges the name and the descriptor in the word of a method with these flags.
 fn named_method(access: u16, word: &[u16]) -> Judged<(&[u16], &[u16])>
     ensures { let name = before_descriptor word.now in
-        said two_texts result ≡ both (tested is_method_name Flaw.Name (Ok name))
-        (tested (is_method_descriptor_for (is_static access || is_initializer_name name))
+        map_ok two_texts result ≡ both (word_if is_method_name Flaw.Name (Ok name))
+        (word_if (is_method_descriptor_for (is_static access || is_initializer_name name))
         Flaw.Descriptor (Ok (descriptor_of word.now))) }
 {
     two_words(
@@ -75,22 +75,26 @@ fn named_method(access: u16, word: &[u16]) -> Judged<(&[u16], &[u16])>
 
 /// Judges the name and the descriptor in the word of a method that a class of this sort may have.
 fn permitted_method(sort: ClassSort, access: u16, word: &[u16]) -> Judged<(&[u16], &[u16])>
-    ensures { said two_texts result ≡ method_head_at sort access (Ok word.now) }
+    ensures { map_ok two_texts result ≡ method_head_at sort access (Ok word.now) }
 {
     let is_permitted = is_permitted(sort, access, before_descriptor(word));
-    two_words_unless(named_method(access, word), asked(is_permitted, Flaw::Flags))
+    two_words_unless(
+        named_method(access, word),
+        judge_test(is_permitted, Flaw::Flags),
+    )
 }
 
 /// Judges the name and the descriptor of a method, if there is a word.
 fn method_head_at(sort: ClassSort, access: u16, word: Judged<&[u16]>) -> Judged<(&[u16], &[u16])>
-    ensures { said two_texts result ≡ method_head_at sort access (said (λ w. w.now) word.entry) }
+    ensures { map_ok two_texts result
+        ≡ method_head_at sort access (map_ok (λ w. w.now) word.entry) }
 {
     permitted_method(sort, access, word?)
 }
 
 /// Judges the access words, the name and the descriptor of a method, and returns the last two.
 fn method_head(sort: ClassSort, access: u16, tokens: &[Token]) -> Judged<(&[u16], &[u16])>
-    ensures { said two_texts result
+    ensures { map_ok two_texts result
         ≡ unless (method_head_at sort access (word_at (last_of (lexemes tokens.now))))
         (access_words method_words (but_last (lexemes tokens.now))) }
 {

@@ -25,7 +25,7 @@ pub(crate) fn last_of(tokens: &[Token]) -> Option<&Lexeme>
 
 /// Returns the tokens after the first `count`.
 #[tactic(auto, using(crate::proofs::TokenLists::lexemes_behind, crate::proofs::TokenLists::lexemes_drop))]
-pub(crate) fn behind(count: usize, tokens: &[Token]) -> &[Token]
+pub(crate) fn after(count: usize, tokens: &[Token]) -> &[Token]
     ensures { lexemes result.now ≡ drop count (lexemes tokens.now) }
 {
     if count <= tokens.len() {

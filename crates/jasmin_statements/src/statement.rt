@@ -2,7 +2,7 @@
 
 ghost use Rattle.std.specs.Prelude.{◌≡◌, IfOk, drop};
 ghost use Rattle.jasmin.specs.Lexing.{lexemes};
-ghost use Rattle.jasmin.specs.Judgements.{both, said};
+ghost use Rattle.jasmin.specs.Judgements.{both, map_ok};
 ghost use Rattle.jasmin.specs.Statements.{directive_line, instruction_line, label_line, statement_of};
 ghost use Rattle.jasmin_instructions.specs.Saying.{Says};
 
@@ -10,7 +10,7 @@ use crate::class_lines::{bytecode_line, class_line, implements_line, source_line
 use crate::code_lines::{catch_line, limit_line, line_line, throws_line, var_line};
 use crate::field_line::field_line;
 use crate::method_lines::{end_line, method_line};
-use crate::places::behind;
+use crate::places::after;
 use crate::switch_lines::{case_line, default_line};
 use jasmin::statement::{ClassSort, Directive, LineKind, OpenSwitch, Statement};
 use jasmin::token::Token;
@@ -54,17 +54,17 @@ fn directive_line(
 
 /// Judges the label at a line's start.
 fn label_line(tokens: &[Token]) -> Judged<&[u16]>
-    ensures { said (λ w. w.now) result ≡ label_line (lexemes tokens.now) }
+    ensures { map_ok (λ w. w.now) result ≡ label_line (lexemes tokens.now) }
 {
     label_at(operand(tokens, 0))
 }
 
 /// Judges a label and an instruction, whose mnemonic is the third token.
 fn labelled_line(alloc: Global, code: u8, tokens: &[Token]) -> Result<Statement, LineFault>
-    ensures { Says result (said (λ p. Statement.LabelledInstruction p.0 p.1) (both
+    ensures { Says result (map_ok (λ p. Statement.LabelledInstruction p.0 p.1) (both
         (label_line (lexemes tokens.now)) (instruction_line code (drop 3 (lexemes tokens.now))))) }
 {
-    let instruction = instruction_line(alloc, code, behind(3, tokens));
+    let instruction = instruction_line(alloc, code, after(3, tokens));
     match (label_line(tokens), instruction) {
         (Ok(label), Ok(instruction)) => Ok(Statement::LabelledInstruction(
             copied_text(alloc, label)?,
@@ -90,12 +90,12 @@ fn line_of(
 {
     match kind {
         LineKind::Blank => Ok(Statement::Blank),
-        LineKind::Directive(directive) => directive_line(alloc, directive, sort, behind(1, tokens)),
+        LineKind::Directive(directive) => directive_line(alloc, directive, sort, after(1, tokens)),
         LineKind::Case => case_line(alloc, switch, tokens),
         LineKind::Default => default_line(alloc, tokens),
         LineKind::Label => Ok(Statement::Label(copied_text(alloc, label_line(tokens)?)?)),
         LineKind::Instruction(code) => {
-            Ok(Statement::Instruction(instruction_line(alloc, code, behind(1, tokens))?))
+            Ok(Statement::Instruction(instruction_line(alloc, code, after(1, tokens))?))
         }
         LineKind::LabelledInstruction(code) => labelled_line(alloc, code, tokens),
     }

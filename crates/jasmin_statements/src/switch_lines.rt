@@ -4,7 +4,7 @@ ghost use Rattle.std.specs.Prelude.{◌≡◌, int_le, pos, slice_get};
 ghost use Rattle.std.specs.Option.{option_map};
 ghost use Rattle.jvms_file.specs.Instructions.{is_above};
 ghost use Rattle.jasmin.specs.Lexing.{lexemes};
-ghost use Rattle.jasmin.specs.Judgements.{said, both, unless, asked};
+ghost use Rattle.jasmin.specs.Judgements.{map_ok, both, unless, judge_test};
 ghost use Rattle.jasmin.specs.Operands.{exactly, label_at, i32_at};
 ghost use Rattle.jasmin.specs.Statements.{table_line, colon_at, label_after_colon, rising_at, match_line, case_line, default_line};
 ghost use Rattle.jasmin_instructions.specs.Saying.{Says};
@@ -13,19 +13,19 @@ use jasmin::source::MatchLine;
 use jasmin::statement::{Flaw, OpenSwitch, Statement};
 use jasmin::token::{Lexeme, Token};
 use jasmin_instructions::{LineFault, alone, word_unless};
-use jasmin_operands::{Judged, asked, both, exactly, i32_at, label_at, operand};
+use jasmin_operands::{Judged, both, exactly, i32_at, judge_test, label_at, operand};
 use shared_data::texts::copied_text;
 use std::alloc::Global;
 
 /// Judges the label of a line of a `tableswitch`. Its value `next` has to fit an int.
 fn table_label(next: i64, tokens: &[Token]) -> Judged<&[u16]>
     ensures { let ts = lexemes tokens.now in
-        said (λ w. w.now) result ≡ unless (unless (label_at (slice_get ts 0)) (exactly 1 ts))
-        (asked (int_le next (pos 2147483647)) Flaw.Number) }
+        map_ok (λ w. w.now) result ≡ unless (unless (label_at (slice_get ts 0)) (exactly 1 ts))
+        (judge_test (int_le next (pos 2147483647)) Flaw.Number) }
 {
     word_unless(
         alone(label_at(operand(tokens, 0)), tokens),
-        asked(next <= i64::from(i32::MAX), Flaw::Number),
+        judge_test(next <= i64::from(i32::MAX), Flaw::Number),
     )
 }
 
@@ -50,7 +50,7 @@ fn colon_at(lexeme: Option<&Lexeme>) -> Judged<()>
 
 /// Judges a colon and a label, the second and third of exactly three tokens.
 fn label_after_colon(tokens: &[Token]) -> Judged<&[u16]>
-    ensures { said (λ w. w.now) result ≡ label_after_colon (lexemes tokens.now) }
+    ensures { map_ok (λ w. w.now) result ≡ label_after_colon (lexemes tokens.now) }
 {
     let label = word_unless(label_at(operand(tokens, 2)), colon_at(operand(tokens, 1)));
     word_unless(label, exactly(3, tokens))
@@ -82,7 +82,7 @@ fn rising_at(last: Option<i32>, value: Judged<i32>) -> Judged<i32>
 #[tactic(auto, using(jasmin_operands::proofs::Judgements::said_both))]
 fn match_parts(last: Option<i32>, tokens: &[Token]) -> Judged<(i32, &[u16])>
     ensures { let ts = lexemes tokens.now in
-        said (λ p. (p.0, p.1.now)) result
+        map_ok (λ p. (p.0, p.1.now)) result
         ≡ both (rising_at last (i32_at (slice_get ts 0))) (label_after_colon ts) }
 {
     both(

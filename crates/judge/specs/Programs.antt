@@ -7,7 +7,7 @@ use Rattle.jvms_machine.specs.Opening.{StartFault}
 use Rattle.inputs.specs.declared.input.Input.{Input}
 use Rattle.inputs.specs.Inputs.{NoClass, class_in}
 use Rattle.linker.specs.declared.fault.LinkFault.{LinkFault}
-use Rattle.linker.specs.Linking.{linked}
+use Rattle.linker.specs.Linking.{link_result}
 
 -- The reasons why nothing is run: an input is no class, the classes make no program, or there is no machine.
 pub data NotRun : Type 0 where
@@ -15,15 +15,15 @@ pub data NotRun : Type 0 where
   not_linked : (fault : LinkFault) → NotRun
   not_made : (why : StartFault) → NotRun
 
-abbrev pub refused : {A E : Type 0} → (E → NotRun) → Result A E → Result A NotRun
-refused why (Ok x) = Ok x
-refused why (Err fault) = Err (why fault)
+abbrev pub with_reason : {A E : Type 0} → (E → NotRun) → Result A E → Result A NotRun
+with_reason why (Ok x) = Ok x
+with_reason why (Err fault) = Err (why fault)
 
 -- Returns the classes of inputs, the first of which has number `file`, or the fault of the first that is no class.
 abbrev pub classes_from : ℕ → List Input → Result (List ClassFile) NotRun
 classes_from file [] = Ok []
 classes_from file (input ∷ rest) = do
-  class ← refused (no_class file) (class_in input)
+  class ← with_reason (no_class file) (class_in input)
   classes ← classes_from (suc file) rest
   Ok (class ∷ classes)
 
@@ -31,4 +31,4 @@ classes_from file (input ∷ rest) = do
 unfoldable pub program_in : List Input → Result (List Class) NotRun
 program_in inputs = do
   classes ← classes_from 0 inputs
-  refused not_linked (linked classes)
+  with_reason not_linked (link_result classes)

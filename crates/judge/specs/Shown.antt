@@ -7,11 +7,11 @@ use Rattle.jvms_machine.specs.declared.machine.Limits.{Limits}
 use Rattle.schedule.specs.Choosers.{Chooser}
 use Rattle.program_runs.specs.Shown.{Shown, program_chooser_left, view_of_program}
 use Rattle.inputs.specs.declared.input.Input.{Input}
-use Rattle.judge.specs.Programs.{NotRun, not_made, program_in, refused}
+use Rattle.judge.specs.Programs.{NotRun, not_made, program_in, with_reason}
 
 -- Returns what the run from an entry on shows, or why there is no run.
 abbrev pub program_judged : ℕ → Chooser → Limits → List Class → Entry → Result Shown NotRun
-program_judged most chooser limits program entry = refused not_made (view_of_program most chooser limits program entry)
+program_judged most chooser limits program entry = with_reason not_made (view_of_program most chooser limits program entry)
 
 -- Returns what the run of the program of inputs shows from an entry on, or why there is none.
 unfoldable pub run_judged : ℕ → Chooser → Limits → List Input → Entry → Result Shown NotRun
@@ -23,4 +23,4 @@ run_judged most chooser limits inputs entry = do
 unfoldable pub chooser_left : ℕ → Chooser → Limits → List Input → Entry → Result Chooser NotRun
 chooser_left most chooser limits inputs entry = do
   program ← program_in inputs
-  refused not_made (program_chooser_left most chooser limits program entry)
+  with_reason not_made (program_chooser_left most chooser limits program entry)

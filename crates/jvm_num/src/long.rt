@@ -4,7 +4,7 @@ ghost use Rattle.std.specs.Prelude.{◌≡◌};
 ghost use Rattle.std.specs.Int.{w64, int_bit_and, int_bit_or, int_bit_xor};
 ghost use Rattle.jvms_file.specs.Numbers.{sum_in, difference_in, product_in, quotient_in, remainder};
 ghost use Rattle.jvms_file.specs.Numbers.{shifted_left_in, shifted_right_in, shifted_right_unsigned_in};
-ghost use Rattle.jvms_file.specs.Numbers.{long_negation, int_of_long, compared};
+ghost use Rattle.jvms_file.specs.Numbers.{long_negation, int_of_long, comparison};
 
 use crate::arithmetic::wrap;
 
@@ -131,7 +131,7 @@ pub fn i2l(n: i32) -> i64
 /// equal.
 #[inline(always)]
 pub fn lcmp(a: i64, b: i64) -> i32
-    ensures { result ≡ compared a b }
+    ensures { result ≡ comparison a b }
 {
     if a > b {
         1

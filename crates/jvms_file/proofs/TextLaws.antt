@@ -6,7 +6,7 @@ use Rattle.std.proofs.lemmas.List.{length-append}
 use Rattle.std.proofs.lemmas.List.Concat.{flat_map-append}
 use Rattle.std.proofs.Math.Seq.{take-append-add, drop-append-add}
 use Rattle.jvms_file.specs.Results.{◌>>=◌, present}
-use Rattle.jvms_file.specs.Texts.{unit_bytes, encoded, IsText, Codes, is_continuation, two_byte_unit, three_byte_unit, after_lead_of_two, after_lead_of_three, unit_at, decoded_from, decoded}
+use Rattle.jvms_file.specs.Texts.{unit_bytes, bytes_of_text, IsText, Codes, is_continuation, two_byte_unit, three_byte_unit, after_lead_of_two, after_lead_of_three, unit_at, decoded_from, text_of_bytes}
 
 -- The cases of a test.
 chosen : {A : Type 0} (b : Bool) (x y z : A) → cond b x y ≡ z → ((b ≡ true) × (x ≡ z)) ⊎ ((b ≡ false) × (y ≡ z))
@@ -224,18 +224,18 @@ step_err (Ok us) u at e = absurd cc
 step_err (Err d) u at e = cc
 
 -- The bytes of a text with one more unit at its front.
-pub encoded-cons : (u : ℕ) (us : List ℕ) → encoded (u ∷ us) ≡ unit_bytes u ++ encoded us
-unfolding encoded
+pub encoded-cons : (u : ℕ) (us : List ℕ) → bytes_of_text (u ∷ us) ≡ unit_bytes u ++ bytes_of_text us
+unfolding bytes_of_text
 encoded-cons u us = refl
 
 -- The bytes of the empty text.
-pub encoded-nil : encoded [] ≡ []
-unfolding encoded
+pub encoded-nil : bytes_of_text [] ≡ []
+unfolding bytes_of_text
 encoded-nil = refl
 
 -- The bytes of two texts, one after the other.
-pub encoded-append : (us vs : List ℕ) → encoded (us ++ vs) ≡ encoded us ++ encoded vs
-unfolding encoded
+pub encoded-append : (us vs : List ℕ) → bytes_of_text (us ++ vs) ≡ bytes_of_text us ++ bytes_of_text vs
+unfolding bytes_of_text
 encoded-append us vs = flat_map-append unit_bytes us vs
 
 -- If a unit is read, decoding continues after it.
@@ -294,23 +294,23 @@ decoded_from_codes (suc most) place (x ∷ more) us e =
     subst (Codes (x ∷ more)) (ok_is (front.0 ∷ others.0) us others.2) whole
 
 -- A text that is decoded is coded by the bytes.
-pub decoded_is_encoded : (bytes us : List ℕ) → decoded bytes ≡ Ok us → Codes bytes us
+pub decoded_is_encoded : (bytes us : List ℕ) → text_of_bytes bytes ≡ Ok us → Codes bytes us
 decoded_is_encoded bytes us e = decoded_from_codes (length bytes) 0 bytes us e
 
 -- A text is decoded from its bytes, with steps enough.
-pub decoded_from_encoded : (most place : ℕ) (us : List ℕ) → IsText us → length (encoded us) ≤ most → decoded_from most place (encoded us) ≡ Ok us
+pub decoded_from_encoded : (most place : ℕ) (us : List ℕ) → IsText us → length (bytes_of_text us) ≤ most → decoded_from most place (bytes_of_text us) ≡ Ok us
 decoded_from_encoded most place [] text enough = rw encoded-nil (decoded_from-nil most place)
 decoded_from_encoded zero place (u ∷ us) text enough =
-    let bytes : length (encoded (u ∷ us)) ≡ length (unit_bytes u) + length (encoded us) = ap length (encoded-cons u us) ∙ length-append (unit_bytes u) (encoded us) in
+    let bytes : length (bytes_of_text (u ∷ us)) ≡ length (unit_bytes u) + length (bytes_of_text us) = ap length (encoded-cons u us) ∙ length-append (unit_bytes u) (bytes_of_text us) in
     absurd (omega (arith, unit_has_bytes u text.0))
 decoded_from_encoded (suc most) place (u ∷ us) text enough =
-    let bytes : length (encoded (u ∷ us)) ≡ length (unit_bytes u) + length (encoded us) = ap length (encoded-cons u us) ∙ length-append (unit_bytes u) (encoded us) in
-    let others = decoded_from_encoded most (place + (length (unit_bytes u ++ encoded us) - length (encoded us))) us text.1 (omega (arith, unit_has_bytes u text.0)) in
-    ap (decoded_from (suc most) place) (encoded-cons u us) ∙ decoded_from-unit most place (unit_bytes u ++ encoded us) u (encoded us) (unit_at_again u (encoded us) text.0) ∙ rw others refl
+    let bytes : length (bytes_of_text (u ∷ us)) ≡ length (unit_bytes u) + length (bytes_of_text us) = ap length (encoded-cons u us) ∙ length-append (unit_bytes u) (bytes_of_text us) in
+    let others = decoded_from_encoded most (place + (length (unit_bytes u ++ bytes_of_text us) - length (bytes_of_text us))) us text.1 (omega (arith, unit_has_bytes u text.0)) in
+    ap (decoded_from (suc most) place) (encoded-cons u us) ∙ decoded_from-unit most place (unit_bytes u ++ bytes_of_text us) u (bytes_of_text us) (unit_at_again u (bytes_of_text us) text.0) ∙ rw others refl
 
 -- A text is decoded from its bytes.
-pub encoded_is_decoded : (us : List ℕ) → IsText us → decoded (encoded us) ≡ Ok us
-encoded_is_decoded us text = decoded_from_encoded (length (encoded us)) 0 us text (omega arith)
+pub encoded_is_decoded : (us : List ℕ) → IsText us → text_of_bytes (bytes_of_text us) ≡ Ok us
+encoded_is_decoded us text = decoded_from_encoded (length (bytes_of_text us)) 0 us text (omega arith)
 
 -- Bytes from which no unit is read begin with none.
 pub no_unit_at : (bytes : List ℕ) → unit_at bytes ≡ None → (u : ℕ) (rest : List ℕ) → u < 0x10000 → bytes ≡ unit_bytes u ++ rest → ⊥
@@ -358,7 +358,7 @@ decoded_from_fault (suc most) place (x ∷ more) at enough e =
     ]
 
 -- The fault of bytes that code no text is the first place where no unit begins.
-pub fault_is_first : (bytes : List ℕ) (at : ℕ) → decoded bytes ≡ Err at → IsFault bytes at
+pub fault_is_first : (bytes : List ℕ) (at : ℕ) → text_of_bytes bytes ≡ Err at → IsFault bytes at
 fault_is_first bytes at e =
     let found = decoded_from_fault (length bytes) 0 bytes at (omega arith) e in
     let same : found.0 ≡ at = omega (arith, found.1) in
@@ -366,4 +366,4 @@ fault_is_first bytes at e =
 
 -- Bytes code at most one text.
 pub one_text : (bytes us vs : List ℕ) → Codes bytes us → Codes bytes vs → us ≡ vs
-one_text bytes us vs p q = ok_is us vs (sym (encoded_is_decoded us p.0) ∙ ap decoded (sym p.1 ∙ q.1) ∙ encoded_is_decoded vs q.0)
+one_text bytes us vs p q = ok_is us vs (sym (encoded_is_decoded us p.0) ∙ ap text_of_bytes (sym p.1 ∙ q.1) ∙ encoded_is_decoded vs q.0)

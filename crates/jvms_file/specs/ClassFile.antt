@@ -4,7 +4,7 @@ use Rattle.jvms_file.specs.declared.class_file.Constant.{Constant}
 use Rattle.jvms_file.specs.declared.class_file.ClassFile.{ClassFile}
 use Rattle.jvms_file.specs.declared.fault.ClassFault.{ClassFault}
 use Rattle.jvms_file.specs.declared.fault.ClassFault.TheVariants as fault
-use Rattle.jvms_file.specs.Results.{◌>>=◌, want, counted}
+use Rattle.jvms_file.specs.Results.{◌>>=◌, want, part_list}
 use Rattle.jvms_file.specs.Bytes.{u2_at, u4_at}
 use Rattle.jvms_file.specs.Descriptors.{is_array_name}
 use Rattle.jvms_file.specs.ConstantPool.{pool_at, entries_fault, class_name_at}
@@ -34,7 +34,7 @@ interface_at pool cut bytes = do
 abbrev pub interfaces_at : List Constant → ClassFault → List ℕ → Result (List ℕ × List ℕ) ClassFault
 interfaces_at pool cut bytes = do
   count ← u2_at cut bytes
-  counted (interface_at pool cut) count.0 count.1
+  part_list (interface_at pool cut) count.0 count.1
 
 abbrev pub is_empty : List ℕ → Bool
 is_empty [] = true

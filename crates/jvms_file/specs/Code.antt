@@ -11,7 +11,7 @@ use Rattle.jvms_file.specs.declared.insn.Insn.TheVariants as insn
 use Rattle.jvms_file.specs.declared.insn.SwitchCase.{SwitchCase}
 use Rattle.jvms_file.specs.declared.insn.TableSwitch.{TableSwitch}
 use Rattle.jvms_file.specs.declared.insn.LookupSwitch.{LookupSwitch}
-use Rattle.jvms_file.specs.Results.{◌>>=◌, present, collected}
+use Rattle.jvms_file.specs.Results.{◌>>=◌, present, results_of}
 use Rattle.jvms_file.specs.Instructions.{insn_at, pad_length}
 
 -- An instruction and the byte at which it starts. Its targets are bytes.
@@ -29,8 +29,8 @@ insns_at_bytes_from (suc most) pool major pc (b ∷ bytes) = do
   others ← insns_at_bytes_from most pool major (pc + (length (b ∷ bytes) - length i.1)) i.1
   Ok (record { pc = pc; insn = i.0 } ∷ others)
 
-abbrev pub placed : List Constant → ℕ → List ℕ → Result (List InsnAtByte) ClassFault
-placed pool major bytes = insns_at_bytes_from (length bytes) pool major 0 bytes
+abbrev pub insns_at_bytes : List Constant → ℕ → List ℕ → Result (List InsnAtByte) ClassFault
+insns_at_bytes pool major bytes = insns_at_bytes_from (length bytes) pool major 0 bytes
 
 -- Returns the bytes at which instructions start.
 abbrev pub starts : List InsnAtByte → List ℕ
@@ -78,14 +78,14 @@ with_places pcs (insn.MultiNewArray n count) = Some (insn.MultiNewArray n count)
 
 -- Returns the instructions with places for targets. The fault is that of the first branching instruction with a target
 -- at which no instruction starts.
-abbrev pub resolved : List ℕ → List InsnAtByte → Result (List Insn) ClassFault
-resolved pcs is = collected (λ i. present (with_places pcs i.insn) (fault.Target i.pc)) is
+abbrev pub insns_with_places : List ℕ → List InsnAtByte → Result (List Insn) ClassFault
+insns_with_places pcs is = results_of (λ i. present (with_places pcs i.insn) (fault.Target i.pc)) is
 
 -- Returns the instructions of a method's bytes. All opcodes and operands are tested before any target.
 unfoldable pub insns_of : List Constant → ℕ → List ℕ → Result (List ℕ × List Insn) ClassFault
 insns_of pool major bytes = do
-  is ← placed pool major bytes
-  insns ← resolved (starts is) is
+  is ← insns_at_bytes pool major bytes
+  insns ← insns_with_places (starts is) is
   Ok (starts is, insns)
 
 -- ---- The layout of code
@@ -96,14 +96,14 @@ is_switch (insn.Lookup s) = true
 is_switch _ = false
 
 -- Returns the bytes, with n of them set to 0 from a place on.
-unfoldable pub zeroed : ℕ → ℕ → List ℕ → List ℕ
-zeroed zero place bytes = bytes
-zeroed (suc n) place bytes = zeroed n (suc place) (slice_set bytes place 0)
+unfoldable pub with_zeros : ℕ → ℕ → List ℕ → List ℕ
+with_zeros zero place bytes = bytes
+with_zeros (suc n) place bytes = with_zeros n (suc place) (slice_set bytes place 0)
 
 -- Returns the bytes of code with all pads set to 0. Pads follow the opcode of a switch (JVMS 6.5 tableswitch).
 unfoldable pub with_zero_pads : List ℕ → List Insn → List ℕ → List ℕ
 with_zero_pads (pc ∷ pcs) (i ∷ is) bytes =
-    with_zero_pads pcs is (if is_switch i then zeroed (pad_length pc) (suc pc) bytes else bytes)
+    with_zero_pads pcs is (if is_switch i then with_zeros (pad_length pc) (suc pc) bytes else bytes)
 with_zero_pads _ _ bytes = bytes
 
 abbrev pub layout_of : List ℕ → List Insn → List ℕ → Layout
@@ -128,4 +128,4 @@ handler_places pcs code_length h =
     else None
 
 abbrev pub handlers_of : List ℕ → ℕ → List Handler → Result (List Handler) ClassFault
-handlers_of pcs code_length hs = collected (λ h. present (handler_places pcs code_length h) fault.Handler) hs
+handlers_of pcs code_length hs = results_of (λ h. present (handler_places pcs code_length h) fault.Handler) hs

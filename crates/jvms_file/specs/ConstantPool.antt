@@ -8,7 +8,7 @@ use Rattle.jvms_file.specs.declared.fault.ClassFault.{ClassFault}
 use Rattle.jvms_file.specs.declared.fault.ClassFault.TheVariants as fault
 use Rattle.jvms_file.specs.Results.{◌>>=◌, want}
 use Rattle.jvms_file.specs.Bytes.{u1_at, u2_at, u4_at, u8_at, bytes_at, signed}
-use Rattle.jvms_file.specs.Texts.{decoded}
+use Rattle.jvms_file.specs.Texts.{text_of_bytes}
 use Rattle.jvms_file.specs.Names.{is_name, is_method_name, begins_with}
 use Rattle.jvms_file.specs.Descriptors.{field_type_of, method_type_of, is_class_entry_name}
 
@@ -65,7 +65,7 @@ abbrev pub utf8_constant_at : ClassFault → List ℕ → Result (Constant × Li
 utf8_constant_at cut bytes = do
   count ← u2_at cut bytes
   text ← bytes_at cut count.0 count.1
-  units ← text_or_fault (decoded text.0)
+  units ← text_or_fault (text_of_bytes text.0)
   Ok (constant.Utf8 units, text.1)
   where
     text_or_fault : Result (List ℕ) ℕ → Result (List ℕ) ClassFault

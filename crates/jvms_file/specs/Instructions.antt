@@ -87,8 +87,8 @@ method_numbers invoke.Static (constant.Method class name_and_type) = Some (class
 method_numbers _ _ = None
 
 -- Returns the name and the descriptor of the method that a call names.
-abbrev pub invoked : List Constant → Invoke → ℕ → Option (List ℕ × List ℕ)
-invoked pool how n =
+abbrev pub invoked_names : List Constant → Invoke → ℕ → Option (List ℕ × List ℕ)
+invoked_names pool how n =
     option_and_then
     (λ numbers. name_and_type_at pool numbers.1)
     (option_and_then (method_numbers how) (entry pool n))
@@ -167,8 +167,8 @@ after_invoke cut _ method bytes = Ok bytes
 abbrev pub invoke_insn : ClassFault → List Constant → Invoke → List ℕ → Read
 invoke_insn cut pool how bytes = do
   n ← u2_at cut bytes
-  _ ← want (is_invocable how (invoked pool how n.0)) cut
-  rest ← after_invoke cut how (invoked pool how n.0) n.1
+  _ ← want (is_invocable how (invoked_names pool how n.0)) cut
+  rest ← after_invoke cut how (invoked_names pool how n.0) n.1
   Ok (insn.Invoke how n.0, rest)
 
 -- Returns the number of pads, 0 to 3. The next byte after them is at a multiple of 4 (JVMS 6.5 tableswitch).

@@ -16,7 +16,7 @@ use Rattle.jvms_file.specs.declared.class_file.MethodInfo.{MethodInfo}
 use Rattle.jvms_file.specs.declared.fault.ClassFault.{ClassFault}
 use Rattle.jvms_file.specs.declared.fault.ClassFault.TheVariants as fault
 use Rattle.jvms_file.specs.declared.descriptor.MethodType.{MethodType}
-use Rattle.jvms_file.specs.Results.{◌>>=◌, want, counted, part_list_onto}
+use Rattle.jvms_file.specs.Results.{◌>>=◌, want, part_list, part_list_onto}
 use Rattle.jvms_file.specs.Bytes.{u2_at, u4_at, bytes_at}
 use Rattle.jvms_file.specs.Names.{same_text, is_name, is_method_name, is_initializer_name}
 use Rattle.jvms_file.specs.Descriptors.{field_type_of, method_type_of, parameter_units}
@@ -55,21 +55,21 @@ pub record AttributeFrame : Type 0 where
   pub whole : Bool
   pub cut : ClassFault
   pub content : List ℕ
-  pub behind : List ℕ
+  pub after : List ℕ
 
-abbrev pub framed : ClassFault → ℕ → List ℕ → AttributeFrame
-framed cut count bytes =
+abbrev pub attribute_frame : ClassFault → ℕ → List ℕ → AttributeFrame
+attribute_frame cut count bytes =
     record {
       whole = nat_le count (length bytes);
       cut = if nat_le count (length bytes) then fault.AttributeLength else cut;
       content = take count bytes;
-      behind = drop count bytes;
+      after = drop count bytes;
     }
 
 abbrev pub frame_at : ClassFault → List ℕ → Result AttributeFrame ClassFault
 frame_at cut bytes = do
   count ← u4_at cut bytes
-  Ok (framed cut count.0 count.1)
+  Ok (attribute_frame cut count.0 count.1)
 
 -- Tests that all of an attribute's content is there and was read.
 abbrev pub want_all : AttributeFrame → List ℕ → Result (Unit {0}) ClassFault
@@ -92,7 +92,7 @@ kept_at pool cut bytes = do
 abbrev pub kept_attributes_at : List Constant → ClassFault → List ℕ → Result (List KeptAttribute × List ℕ) ClassFault
 kept_attributes_at pool cut bytes = do
   count ← u2_at cut bytes
-  counted (kept_at pool cut) count.0 count.1
+  part_list (kept_at pool cut) count.0 count.1
 
 -- Decides whether an entry is the text of an attribute's name.
 abbrev pub is_named : List Constant → ℕ → List ℕ → Bool
@@ -127,7 +127,7 @@ constant_value_at pool descriptor name frame = do
   value ← u2_at frame.cut frame.content
   _ ← want (is_constant_of (utf8_at pool descriptor) (entry pool value.0)) fault.Index
   _ ← want_all frame value.1
-  Ok (field_attribute.ConstantValue name value.0, frame.behind)
+  Ok (field_attribute.ConstantValue name value.0, frame.after)
 
 abbrev pub is_constant_value : FieldAttribute → Bool
 is_constant_value (field_attribute.ConstantValue name value) = true
@@ -206,12 +206,12 @@ code_at pool major frame = do
   _ ← want (is_code_length code_length.0) fault.CodeLength
   bytes ← bytes_at frame.cut code_length.0 code_length.1
   count ← u2_at frame.cut bytes.1
-  table ← counted (handler_at pool frame.cut) count.0 count.1
+  table ← part_list (handler_at pool frame.cut) count.0 count.1
   attributes ← kept_attributes_at pool frame.cut table.1
   _ ← want_all frame attributes.1
   insns ← insns_of pool major bytes.0
   handlers ← handlers_of insns.0 code_length.0 table.0
-  Ok (record { max_stack = max_stack.0; max_locals = max_locals.0; layout = layout_of insns.0 insns.1 bytes.0; insns = insns.1; handlers = handlers; attributes = attributes.0 }, frame.behind)
+  Ok (record { max_stack = max_stack.0; max_locals = max_locals.0; layout = layout_of insns.0 insns.1 bytes.0; insns = insns.1; handlers = handlers; attributes = attributes.0 }, frame.after)
 
 -- Reads the number of a Class entry.
 abbrev pub class_number_at : List Constant → ClassFault → List ℕ → Result (ℕ × List ℕ) ClassFault
@@ -224,9 +224,9 @@ class_number_at pool cut bytes = do
 abbrev pub exceptions_at : List Constant → AttributeFrame → Result (List ℕ × List ℕ) ClassFault
 exceptions_at pool frame = do
   count ← u2_at frame.cut frame.content
-  classes ← counted (class_number_at pool frame.cut) count.0 count.1
+  classes ← part_list (class_number_at pool frame.cut) count.0 count.1
   _ ← want_all frame classes.1
-  Ok (classes.0, frame.behind)
+  Ok (classes.0, frame.after)
 
 abbrev pub is_code : MethodAttribute → Bool
 is_code (method_attribute.Code name code) = true

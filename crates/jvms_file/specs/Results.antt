@@ -17,9 +17,9 @@ present (Some x) e = Ok x
 present None e = Err e
 
 -- Returns the results of the items of a list, in order, or the first fault.
-abbrev pub collected : {A B E : Type 0} → (A → Result B E) → List A → Result (List B) E
-collected f [] = Ok []
-collected f (x ∷ xs) = f x >>= λ y. (collected f xs >>= λ ys. Ok (y ∷ ys))
+abbrev pub results_of : {A B E : Type 0} → (A → Result B E) → List A → Result (List B) E
+results_of f [] = Ok []
+results_of f (x ∷ xs) = f x >>= λ y. (results_of f xs >>= λ ys. Ok (y ∷ ys))
 
 -- Reads as many consecutive things as the count says, each in view of those before it. The result has those in `seen`,
 -- followed by these.
@@ -28,5 +28,5 @@ part_list_onto thing seen zero bytes = Ok (seen, bytes)
 part_list_onto thing seen (suc left) bytes = thing seen bytes >>= λ x. part_list_onto thing (seen ++ x.0 ∷ []) left x.1
 
 -- Reads as many consecutive things as the count says.
-abbrev pub counted : {A E : Type 0} → (List ℕ → Result (A × List ℕ) E) → ℕ → List ℕ → Result (List A × List ℕ) E
-counted thing count bytes = part_list_onto (λ seen. thing) [] count bytes
+abbrev pub part_list : {A E : Type 0} → (List ℕ → Result (A × List ℕ) E) → ℕ → List ℕ → Result (List A × List ℕ) E
+part_list thing count bytes = part_list_onto (λ seen. thing) [] count bytes

@@ -34,11 +34,11 @@ use Rattle.jvms_file.specs.declared.insn.SwitchCase.{SwitchCase}
 use Rattle.jvms_file.specs.declared.insn.TableSwitch.{TableSwitch}
 use Rattle.jvms_file.specs.declared.insn.LookupSwitch.{LookupSwitch}
 use Rattle.jvms_file.specs.Bytes.{signed}
-use Rattle.jvms_file.specs.Texts.{encoded, IsText}
+use Rattle.jvms_file.specs.Texts.{bytes_of_text, IsText}
 use Rattle.jvms_file.specs.Names.{is_name, is_method_name}
 use Rattle.jvms_file.specs.Descriptors.{field_type_of}
 use Rattle.jvms_file.specs.ConstantPool.{entry, utf8_at, is_utf8, is_class, class_name_at, takes_two, entries_fault}
-use Rattle.jvms_file.specs.Instructions.{target_of, array_type_of, is_loadable, is_wide_loadable, passes, is_field, invoked, is_invocable, interface_count, names_usable, is_dimensions, pad_length, is_above}
+use Rattle.jvms_file.specs.Instructions.{target_of, array_type_of, is_loadable, is_wide_loadable, passes, is_field, invoked_names, is_invocable, interface_count, names_usable, is_dimensions, pad_length, is_above}
 use Rattle.jvms_file.specs.Code.{layout_of}
 use Rattle.jvms_file.specs.Members.{is_named, is_constant_of, is_constant_value, is_text_with, is_same_field, is_same_method, is_code, is_exceptions, needs_code, is_initializer, is_method_descriptor_for, is_static, is_abstract, is_interface, is_code_length}
 use Rattle.jvms_file.specs.ClassFile.{is_proper_class, is_version}
@@ -80,7 +80,7 @@ Counted P bytes xs = IsU2 (length xs) × InTwo bytes (λ count. count ≡ u2 (le
 
 abbrev pub SpellsConstant : List ℕ → Constant → Type 0
 SpellsConstant bytes (constant.Utf8 text) =
-    IsText text × IsU2 (length (encoded text)) × (bytes ≡ 1 ∷ u2 (length (encoded text)) ++ encoded text)
+    IsText text × IsU2 (length (bytes_of_text text)) × (bytes ≡ 1 ∷ u2 (length (bytes_of_text text)) ++ bytes_of_text text)
 SpellsConstant bytes (constant.Integer n) = (m : ℕ) × IsU4 m × (n ≡ signed w32 m) × (bytes ≡ 3 ∷ u4 m)
 SpellsConstant bytes (constant.Float n) = IsU4 n × (bytes ≡ 4 ∷ u4 n)
 SpellsConstant bytes (constant.Long n) = (m : ℕ) × (m < 2 ^ 64) × (n ≡ signed w64 m) × (bytes ≡ 5 ∷ u8 m)
@@ -205,8 +205,8 @@ SpellsInsn pool major pcs pc bytes (insn.Constant n) = SpellsLoad pool major byt
 SpellsInsn pool major pcs pc bytes (insn.Field how n) =
     (code : ℕ) × IsOpcode code (opcode.Field how) × IsU2 n × IsTrue (passes is_field (entry pool n)) × (bytes ≡ code ∷ u2 n)
 SpellsInsn pool major pcs pc bytes (insn.Invoke how n) =
-    (code : ℕ) × IsOpcode code (opcode.Invoke how) × IsU2 n × IsTrue (is_invocable how (invoked pool how n))
-    × (rest : List ℕ) × SpellsAfterInvoke how (invoked pool how n) rest × (bytes ≡ code ∷ u2 n ++ rest)
+    (code : ℕ) × IsOpcode code (opcode.Invoke how) × IsU2 n × IsTrue (is_invocable how (invoked_names pool how n))
+    × (rest : List ℕ) × SpellsAfterInvoke how (invoked_names pool how n) rest × (bytes ≡ code ∷ u2 n ++ rest)
 SpellsInsn pool major pcs pc bytes (insn.Class how n) =
     (code : ℕ) × IsOpcode code (opcode.Class how) × IsU2 n × IsTrue (names_usable how (class_name_at pool n)) × (bytes ≡ code ∷ u2 n)
 SpellsInsn pool major pcs pc bytes (insn.MultiNewArray n count) =

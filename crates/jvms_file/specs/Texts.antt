@@ -13,8 +13,8 @@ unit_bytes u =
     else (0xe0 + u / 0x1000) ∷ (0x80 + u / 0x40 % 0x40) ∷ (0x80 + u % 0x40) ∷ [])
 
 -- Returns the bytes of a text: those of its units, in order.
-unfoldable pub encoded : List ℕ → List ℕ
-encoded us = flat_map unit_bytes us
+unfoldable pub bytes_of_text : List ℕ → List ℕ
+bytes_of_text us = flat_map unit_bytes us
 
 -- A text whose units have 16 bits, so that each has bytes.
 abbrev pub IsText : List ℕ → Type 0
@@ -22,7 +22,7 @@ IsText us = AllByRecursion (λ u. u < 0x10000) us
 
 -- These bytes code this text. A text has one spelling.
 abbrev pub Codes : List ℕ → List ℕ → Type 0
-Codes bytes us = IsText us × (bytes ≡ encoded us)
+Codes bytes us = IsText us × (bytes ≡ bytes_of_text us)
 
 -- Decides whether a byte may follow the first byte of a unit.
 abbrev pub is_continuation : ℕ → Bool
@@ -70,5 +70,5 @@ decoded_from (suc most) place (x ∷ rest) = do
   us ← decoded_from most (place + (length (x ∷ rest) - length unit.1)) unit.1
   Ok (unit.0 ∷ us)
 
-abbrev pub decoded : List ℕ → Result (List ℕ) ℕ
-decoded bytes = decoded_from (length bytes) 0 bytes
+abbrev pub text_of_bytes : List ℕ → Result (List ℕ) ℕ
+text_of_bytes bytes = decoded_from (length bytes) 0 bytes

@@ -3,8 +3,8 @@
 ghost use Rattle.std.specs.Prelude.{◌≡◌, ℕ, ◌∷◌, [], ℤ, pos, negsuc, Option, Some, None, Ok};
 ghost use Rattle.std.specs.Int.{w64};
 ghost use Rattle.jvms_file.specs.declared.insn.Narrow.TheVariants as narrow;
-ghost use Rattle.jvms_file.specs.Numbers.{wrap, long_wrap, IsCongruent, IsCongruentLong, IsInt, IsLong, quotient, remainder, shifted_left, shifted_right, shifted_right_unsigned, narrowed};
-ghost use Rattle.jvms_file.specs.Numbers.{quotient_in, shifted_left_in, shifted_right_unsigned_in, int_of_long, compared};
+ghost use Rattle.jvms_file.specs.Numbers.{wrap, long_wrap, IsCongruent, IsCongruentLong, IsInt, IsLong, quotient, remainder, shifted_left, shifted_right, shifted_right_unsigned, narrowing};
+ghost use Rattle.jvms_file.specs.Numbers.{quotient_in, shifted_left_in, shifted_right_unsigned_in, int_of_long, comparison};
 ghost use Rattle.jvms_file.specs.Code.{insns_of};
 ghost use Rattle.jvms_file.specs.Examples.{gcd_code, gcd_insns};
 
@@ -34,10 +34,10 @@ pub fn shifts_and_narrowed_numbers()
     ensures shifts { (shifted_left (pos 1) (pos 33) ≡ pos 2)
         × (shifted_right (negsuc 7) (pos 1) ≡ negsuc 3)
         × (shifted_right_unsigned (negsuc 0) (pos 28) ≡ pos 15) }
-    ensures narrowed { (narrowed narrow.Byte (pos 200) ≡ negsuc 55)
-        × (narrowed narrow.Char (negsuc 0) ≡ pos 65535)
-        × (narrowed narrow.Short (pos 40000) ≡ negsuc 25535)
-        × (narrowed narrow.Boolean (pos 3) ≡ pos 1) }
+    ensures narrowed { (narrowing narrow.Byte (pos 200) ≡ negsuc 55)
+        × (narrowing narrow.Char (negsuc 0) ≡ pos 65535)
+        × (narrowing narrow.Short (pos 40000) ≡ negsuc 25535)
+        × (narrowing narrow.Boolean (pos 3) ≡ pos 1) }
 {}
 
 /// Proves that the fifteen bytes of gcd are eleven instructions.
@@ -54,5 +54,5 @@ pub fn results_of_longs()
     ensures shifts { (shifted_left_in w64 (pos 1) (pos 65) ≡ pos 2)
         × (shifted_right_unsigned_in w64 (negsuc 0) (pos 60) ≡ pos 15) }
     ensures low_bits { int_of_long (pos 2147483648) ≡ negsuc 2147483647 }
-    ensures order { compared (negsuc 0) (pos 1) ≡ negsuc 0 }
+    ensures order { comparison (negsuc 0) (pos 1) ≡ negsuc 0 }
 {}

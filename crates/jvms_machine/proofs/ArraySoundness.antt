@@ -26,7 +26,7 @@ use Rattle.jvms_machine.specs.Places.{is_of_kind, top_value}
 use Rattle.jvms_machine.proofs.PlaceLaws.{top_is_of_kind}
 use Rattle.jvms_machine.specs.Heap.{has_room_for_elements, next_reference, stored_as, array_of_type, array_of_class, component_type, first_element, has_dimensions, arrays_made, elements_made, new_arrays}
 use Rattle.jvms_machine.specs.Fields.{taking}
-use Rattle.jvms_machine.specs.Arrays.{with_int, with_object_of, length_decision, new_array_decision, new_class_array_decision, lengths_in, is_int, is_negative, length_of_value, counted_lengths, new_arrays_room, new_arrays_decision, measured, array_length_decision, serves, kind_of_elements, element_at, loaded, load_from, load_operands, fits_component, is_reference_kind, stored, store_to, store_operands, array_decision, element_size, store_below}
+use Rattle.jvms_machine.specs.Arrays.{with_int, with_object_of, length_decision, new_array_decision, new_class_array_decision, lengths_in, is_int, is_negative, length_of_value, counted_lengths, new_arrays_room, new_arrays_decision, object_length_decision, array_length_decision, serves, kind_of_elements, element_at, element_load_decision, load_from, load_operands, fits_component, is_reference_kind, element_store_decision, store_to, store_operands, array_decision, element_size, store_below}
 use Rattle.jvms_machine.specs.Turn.{ElementsCanHold}
 use Rattle.jvms_machine.proofs.ListLaws.{all_at, all_replicate}
 use Rattle.jvms_machine.proofs.LimitLaws.{room_for_elements_is}
@@ -149,7 +149,7 @@ module _ (program : List Class) (limits : Limits) (start : Start) (s : State) (t
 
   -- ---- The length of an array
 
-  measured_keeps : (r : ℕ) (o : Object) → HasDepth frame 1 1 → KeepsSound (measured r o)
+  measured_keeps : (r : ℕ) (o : Object) → HasDepth frame 1 1 → KeepsSound (object_length_decision r o)
   measured_keeps r (array class elements) depth =
       reaches_keeps program limits start s t thread frame below stands effect.Nothing (frame_action.Push 1 (value.Int (pos (length elements))))
       (λ _. record { sound = stands.sound; room = (depth.there, depth.room); value = tt; heard = tt; can_be_made = λ _. tt })
@@ -158,12 +158,12 @@ module _ (program : List Class) (limits : Limits) (start : Start) (s : State) (t
   measured_keeps r (class_object name) depth = still t stands.sound
 
   array_length_keeps : (operands : List Value) → HasDepth frame 1 1 → KeepsSound (array_length_decision limits s thread operands)
-  array_length_keeps (v ∷ others) depth = with_object_keeps v measured (λ r o at. measured_keeps r o depth)
+  array_length_keeps (v ∷ others) depth = with_object_keeps v object_length_decision (λ r o at. measured_keeps r o depth)
   array_length_keeps [] depth = still t stands.sound
 
   -- ---- Loads
 
-  loaded_keeps : (r : ℕ) (n : ℤ) (o : Option Value) → IfSome o (IsValue s.heap) → KeepsSound (loaded limits s thread frame r n o)
+  loaded_keeps : (r : ℕ) (n : ℤ) (o : Option Value) → IfSome o (IsValue s.heap) → KeepsSound (element_load_decision limits s thread frame r n o)
   loaded_keeps r n None is = throws_keeps start stands thrown.ArrayIndexOutOfBoundsException
   loaded_keeps r n (Some v) is =
       read_keeps program limits start s t thread frame below stands (effect.LoadElement r (unsigned_abs n)) 2 (Some v) stands.sound is tt tt
@@ -191,7 +191,7 @@ module _ (program : List Class) (limits : Limits) (start : Start) (s : State) (t
   abbrev HasStored : ArrayKind → Type 0
   HasStored k = HasDepth frame (2 + element_size k) 0
 
-  stored_keeps : (k : ArrayKind) (v : Value) (n : ℤ) (r : ℕ) (class : List ℕ) (o : Option Value) → HasStored k → IsValue s.heap v → IfSome (object_at s.heap r) (ElementsCanHold (stored_as (component_type class) v)) → KeepsSound (stored program limits s thread frame.activation k v n r class o)
+  stored_keeps : (k : ArrayKind) (v : Value) (n : ℤ) (r : ℕ) (class : List ℕ) (o : Option Value) → HasStored k → IsValue s.heap v → IfSome (object_at s.heap r) (ElementsCanHold (stored_as (component_type class) v)) → KeepsSound (element_store_decision program limits s thread frame.activation k v n r class o)
   stored_keeps k v n r class None depth is holds = throws_keeps start stands thrown.ArrayIndexOutOfBoundsException
   stored_keeps k v n r class (Some old) depth is holds =
       let kept = stored_as (component_type class) v in

@@ -22,7 +22,7 @@ use Rattle.jvms_program.specs.BuiltIn.{object}
 use Rattle.jvms_program.specs.Program.{IsProgram, IsSpelledInstruction, IsSpelledMethod, IsSpelledClass, class_named, class_number, declared_number, method_at}
 use Rattle.jvms_program.specs.Resolution.{ResolvedMethod, chain_within, chain, ancestry_within, ancestry, members_class, class_exists, names_interface, declared_method, first_in, class_method_order, interface_method_order, method_in_order, reference_method, resolved_method, is_selectable, selectable_in, selected_from, is_superclass, superclass_of, selected_special, method_number}
 use Rattle.jvms_machine.specs.State.{MethodFrame, body_at}
-use Rattle.jvms_machine.specs.Calls.{selected}
+use Rattle.jvms_machine.specs.Calls.{selected_method}
 use Rattle.jvms_machine.proofs.ListLaws.{all_at, all_append, all_flat_map, option_map_some}
 use Rattle.jvms_machine.proofs.SearchLaws.{find_passes, position_leads, found_at}
 
@@ -205,11 +205,11 @@ selected_special_is_found program current descriptor r found f was is =
     (λ _ itself. subst (IsFound program descriptor) (same_Some found f itself) was)
     is
 
-special_by : (program : List Class) (frame : MethodFrame) (r : MethodReference) (class descriptor : List ℕ) (found f : ResolvedMethod) (o : Option Class) → o ≡ slice_get program frame.method.class → IsFound program descriptor found → selected program frame invoke.Special r class found ≡ Some f → IsFound program descriptor f
+special_by : (program : List Class) (frame : MethodFrame) (r : MethodReference) (class descriptor : List ℕ) (found f : ResolvedMethod) (o : Option Class) → o ≡ slice_get program frame.method.class → IsFound program descriptor found → selected_method program frame invoke.Special r class found ≡ Some f → IsFound program descriptor f
 special_by program frame r class descriptor found f None e was is = let none : None ≡ Some f = rw (← e) at is in absurd (none-some f none)
 special_by program frame r class descriptor found f (Some current) e was is = selected_special_is_found program current.name descriptor r found f was (rw (← e) at is)
 
-pub selected_is_found : (program : List Class) (frame : MethodFrame) (how : Invoke) (r : MethodReference) (class descriptor : List ℕ) (found f : ResolvedMethod) → IsFound program descriptor found → selected program frame how r class found ≡ Some f → IsFound program descriptor f
+pub selected_is_found : (program : List Class) (frame : MethodFrame) (how : Invoke) (r : MethodReference) (class descriptor : List ℕ) (found f : ResolvedMethod) → IsFound program descriptor found → selected_method program frame how r class found ≡ Some f → IsFound program descriptor f
 selected_is_found program frame invoke.Static r class descriptor found f was is = subst (IsFound program descriptor) (same_Some found f is) was
 selected_is_found program frame invoke.Virtual r class descriptor found f was is = selected_from_is_found program class descriptor found f was is
 selected_is_found program frame invoke.Interface r class descriptor found f was is = selected_from_is_found program class descriptor found f was is

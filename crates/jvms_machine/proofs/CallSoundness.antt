@@ -33,9 +33,9 @@ use Rattle.jvms_machine.specs.Start.{Start, IsArgument, IsStart}
 use Rattle.jvms_machine.specs.Activations.{has_depth}
 use Rattle.jvms_machine.specs.Steps.{instruction_at}
 use Rattle.jvms_machine.specs.Profile.{is_outside_method}
-use Rattle.jvms_machine.specs.Calls.{entered, enter_decision, with_body, called_decision, first_call, entry_decision, run_of_class, selected_run, run_of_object, run_decision, first_call_decision, taken, receiver_of, are_of_call, numbered, call_decision, static_call_decision, selected, selected_decision, wrong_receiver, object_call_decision, receiver_call_decision, resolved_call_decision, invoke_decision}
+use Rattle.jvms_machine.specs.Calls.{frame_of_call, enter_decision, with_body, called_decision, first_call, entry_decision, run_of_class, selected_run, run_of_object, run_decision, first_call_decision, slots_of_call, receiver_of, are_of_call, with_method, call_decision, static_call_decision, selected_method, selected_decision, wrong_receiver, object_call_decision, receiver_call_decision, resolved_call_decision, invoke_decision}
 use Rattle.jvms_machine.specs.Monitors.{locked_reference}
-use Rattle.jvms_machine.specs.Actions.{with_lock, first_arguments, first_called, given, stack_without_operands, calling, top_operands, arguments_of, applied_to, items_of}
+use Rattle.jvms_machine.specs.Actions.{with_lock, first_arguments, first_called, without_arguments, stack_without_operands, calling, top_operands, arguments_of, applied_to, items_of}
 use Rattle.jvms_machine.specs.Marks.{calls_in, calls_of}
 use Rattle.jvms_machine.proofs.ListLaws.{all_weaker, all_append, all_replicate, all_take, all_reverse}
 use Rattle.jvms_machine.proofs.InitialisationOrder.{count_call}
@@ -60,7 +60,7 @@ argument_is_value heap opened _ is = tt
 
 -- A call entered with arguments that fit its local variables is a frame, if it holds a monitor if and only if its
 -- method is synchronized.
-pub entered_is_frame : (program : List Class) (heap : List Object) (method : MethodNumber) (body : Body) (monitor : Option ℕ) (arguments : List Value) → length arguments ≤ body.max_locals → AllByRecursion (IsValue heap) arguments → body_at program method ≡ Some body → IfSome monitor (IsReference heap) → is_some monitor ≡ is_synchronized_at program method → IsFrame program heap (stack_frame.Call (entered method body monitor arguments))
+pub entered_is_frame : (program : List Class) (heap : List Object) (method : MethodNumber) (body : Body) (monitor : Option ℕ) (arguments : List Value) → length arguments ≤ body.max_locals → AllByRecursion (IsValue heap) arguments → body_at program method ≡ Some body → IfSome monitor (IsReference heap) → is_some monitor ≡ is_synchronized_at program method → IsFrame program heap (stack_frame.Call (frame_of_call method body monitor arguments))
 entered_is_frame program heap method body monitor arguments few values body_is held flag =
     let unset : List Value = replicate (body.max_locals - length arguments) value.Unset in
     let as_many : length (arguments ++ unset) ≡ body.max_locals = omega (arith, length-append arguments unset, length-replicate (body.max_locals - length arguments) value.Unset) in
@@ -80,7 +80,7 @@ same_as_itself [] = refl
 same_as_itself (u ∷ us) = and_from (eqb u u) (same_text us us) (eq-eqb u u refl) (same_as_itself us)
 
 -- The call is directly above its caller.
-stands_on_caller : (program : List Class) (heap : List Object) (frame callee : MethodFrame) (m : Method) (how : Invoke) (r : MethodReference) (takes : ℕ) → IsProgram program → IsFrame program heap (stack_frame.Call frame) → instruction_at frame ≡ Some (instruction.Invoke how r) → method_at program callee.method ≡ Some m → m.descriptor ≡ r.descriptor → HasDepth frame takes (result_length r.method_type.result) → IsDirectlyAbove program (stack_frame.Call callee) (stack_frame.Call (given takes frame))
+stands_on_caller : (program : List Class) (heap : List Object) (frame callee : MethodFrame) (m : Method) (how : Invoke) (r : MethodReference) (takes : ℕ) → IsProgram program → IsFrame program heap (stack_frame.Call frame) → instruction_at frame ≡ Some (instruction.Invoke how r) → method_at program callee.method ≡ Some m → m.descriptor ≡ r.descriptor → HasDepth frame takes (result_length r.method_type.result) → IsDirectlyAbove program (stack_frame.Call callee) (stack_frame.Call (without_arguments takes frame))
 stands_on_caller program heap frame callee m how r takes of_program is at m_is same depth =
     let type : m.method_type ≡ r.method_type = called_has_type program frame.method frame.body frame.activation.place how r callee.method m of_program is.0 at m_is same in
     let lengths : result_length m.method_type.result ≡ result_length r.method_type.result = ap (λ (t : MethodType). result_length t.result) type in
@@ -129,20 +129,20 @@ module _ (program : List Class) (limits : Limits) (start : Start) (s : State) (t
       (λ body body_is. enter_keeps stands n m receiver arguments body (make body) reference body_is (keeps body))))
 
   -- The method of a number.
-  numbered_by : {frames : List Frame} → HasFrames frames → (n : MethodNumber) (o : Option Method) (make : MethodNumber → Method → TurnDecision) → o ≡ method_at program n → ((m : Method) → o ≡ Some m → KeepsSound (make n m)) → KeepsSound (numbered program (Some n) make)
+  numbered_by : {frames : List Frame} → HasFrames frames → (n : MethodNumber) (o : Option Method) (make : MethodNumber → Method → TurnDecision) → o ≡ method_at program n → ((m : Method) → o ≡ Some m → KeepsSound (make n m)) → KeepsSound (with_method program (Some n) make)
   numbered_by stands n None make e keeps = rw (← e) (still t stands.sound)
   numbered_by stands n (Some m) make e keeps = rw (← e) (keeps m refl)
 
   -- ---- The first call
 
   -- A method is entered with the arguments of the first call.
-  enters_keeps : HasFrames [] → (n : MethodNumber) (m : Method) (body : Body) (locked : Lock) (count : ℕ) → method_at program n ≡ Some m → AllByRecursion (IsValue s.heap) (first_arguments start thread) → length (first_arguments start thread) ≡ count → Enters count m body locked → KeepsSound (decision.Makes (action.Enters n body locked))
+  enters_keeps : HasFrames [] → (n : MethodNumber) (m : Method) (body : Body) (locked : Lock) (count : ℕ) → method_at program n ≡ Some m → AllByRecursion (IsValue s.heap) (first_arguments start thread) → length (first_arguments start thread) ≡ count → Enters count m body locked → KeepsSound (decision.Applies (action.Enters n body locked))
   unfolding applied_to items_of
   enters_keeps stands n m body locked count m_is values as_many enters =
       let made = with_lock program s t locked in
       let there = stands_with_lock stands locked enters.is_locked in
       let arguments = first_arguments start thread in
-      let frame = entered n body (locked_reference locked) arguments in
+      let frame = frame_of_call n body (locked_reference locked) arguments in
       let change = first_called start n body locked in
       let are : (change thread).frames ≡ stack_frame.Call frame ∷ [] = ap (λ (fs : List Frame). stack_frame.Call frame ∷ fs) stands.frames_are in
       let few : length arguments ≤ body.max_locals = subst (λ k. k ≤ body.max_locals) (sym as_many) enters.few in
@@ -159,7 +159,7 @@ module _ (program : List Class) (limits : Limits) (start : Start) (s : State) (t
 
   first_keeps : HasFrames [] → (receiver : Option ℕ) (count : ℕ) (n : MethodNumber) (m : Method) → IfSome receiver (IsReference s.heap) → method_at program n ≡ Some m → AllByRecursion (IsValue s.heap) (first_arguments start thread) → length (first_arguments start thread) ≡ count → KeepsSound (first_call program limits s t thread receiver count n m)
   first_keeps stands receiver count n m reference m_is values as_many =
-      called_keeps stands n m receiver count _ (λ body locked. decision.Makes (action.Enters n body locked)) reference (throws_keeps start stands thrown.UnsatisfiedLinkError)
+      called_keeps stands n m receiver count _ (λ body locked. decision.Applies (action.Enters n body locked)) reference (throws_keeps start stands thrown.UnsatisfiedLinkError)
       (λ body locked enters. enters_keeps stands n m body locked count m_is values as_many enters)
 
   -- Thread 0 has the arguments of the start.
@@ -187,7 +187,7 @@ module _ (program : List Class) (limits : Limits) (start : Start) (s : State) (t
   selected_run_keeps stands r None is reference = throws_keeps start stands thrown.AbstractMethodError
   selected_run_keeps stands r (Some found) is reference = of_number (method_number program found)
     where
-      of_number : (o : Option MethodNumber) → KeepsSound (numbered program o (first_call program limits s t thread (Some r) 1))
+      of_number : (o : Option MethodNumber) → KeepsSound (with_method program o (first_call program limits s t thread (Some r) 1))
       of_number None = still t stands.sound
       of_number (Some n) =
           numbered_by stands n (method_at program n) _ refl
@@ -208,22 +208,22 @@ module _ (program : List Class) (limits : Limits) (start : Start) (s : State) (t
 
   -- ---- The four call instructions
 
-  module _ (frame : MethodFrame) (below : List Frame) (how : Invoke) (r : MethodReference) (stands : Stands program limits s t thread (stack_frame.Call frame ∷ below)) (at : instruction_at frame ≡ Some (instruction.Invoke how r)) (depth : HasDepth frame (taken how r.method_type) (result_length r.method_type.result)) (quiet : IsQuiet thread) where
+  module _ (frame : MethodFrame) (below : List Frame) (how : Invoke) (r : MethodReference) (stands : Stands program limits s t thread (stack_frame.Call frame ∷ below)) (at : instruction_at frame ≡ Some (instruction.Invoke how r)) (depth : HasDepth frame (slots_of_call how r.method_type) (result_length r.method_type.result)) (quiet : IsQuiet thread) where
     -- The operands that are the arguments.
     arguments_are : (takes : ℕ) → arguments_of takes (slice_get s.threads t) ≡ reverse (take takes frame.activation.operands)
     arguments_are takes = ap (arguments_of takes) stands.given_out ∙ ap (λ (fs : List Frame). reverse (take takes (top_operands fs))) stands.frames_are
 
     -- A method is called.
-    calls_keeps : (n : MethodNumber) (m : Method) (body : Body) (locked : Lock) → method_at program n ≡ Some m → m.descriptor ≡ r.descriptor → Enters (taken how r.method_type) m body locked → KeepsSound (decision.Makes (action.Calls n body (taken how r.method_type) locked))
+    calls_keeps : (n : MethodNumber) (m : Method) (body : Body) (locked : Lock) → method_at program n ≡ Some m → m.descriptor ≡ r.descriptor → Enters (slots_of_call how r.method_type) m body locked → KeepsSound (decision.Applies (action.Calls n body (slots_of_call how r.method_type) locked))
     unfolding applied_to items_of
     calls_keeps n m body locked m_is same enters =
         let made = with_lock program s t locked in
         let on = stands_with_lock stands locked enters.is_locked in
-        let takes = taken how r.method_type in
+        let takes = slots_of_call how r.method_type in
         let arguments = arguments_of takes (slice_get s.threads t) in
-        let callee = entered n body (locked_reference locked) arguments in
+        let callee = frame_of_call n body (locked_reference locked) arguments in
         let frames = frames_are_stack on in
-        let now = stack_frame.Call callee ∷ stack_frame.Call (given takes frame) ∷ below in
+        let now = stack_frame.Call callee ∷ stack_frame.Call (without_arguments takes frame) ∷ below in
         let are : (calling callee takes thread).frames ≡ now = ap (λ (fs : List Frame). stack_frame.Call callee ∷ stack_without_operands takes fs) stands.frames_are in
         let as_many : length arguments ≡ takes = ap length (arguments_are takes) ∙ length-reverse (take takes frame.activation.operands) ∙ length-take-le takes frame.activation.operands depth.there in
         let values : AllByRecursion (IsValue made.heap) arguments = subst (AllByRecursion (IsValue made.heap)) (sym (arguments_are takes)) (all_reverse (IsValue made.heap) (take takes frame.activation.operands) (all_take (IsValue made.heap) takes frame.activation.operands frames.0.0.3)) in
@@ -232,32 +232,32 @@ module _ (program : List Class) (limits : Limits) (start : Start) (s : State) (t
         let room = enters.room in (
           (λ of_program. moved_is_sound on (calling callee takes) now are refl (refl, refl)
               (entered_is_frame program made.heap n body (locked_reference locked) arguments few values (body_of program n m body m_is enters.body_is) (locked_is_reference program limits s t locked enters.is_locked) (enters.flag ∙ sym (flag_of program n m m_is)), (given_is_frame program made.heap takes frame frames.0.0, frames.0.1))
-              (stands_on_caller program made.heap frame callee m how r takes of_program frames.0.0 at m_is same depth, stack_goes_on program frame (given takes frame).activation below frames.1)
+              (stands_on_caller program made.heap frame callee m how r takes of_program frames.0.0 at m_is same depth, stack_goes_on program frame (without_arguments takes frame).activation below frames.1)
               (omega arith)
-              (λ c. count_call c callee (stack_frame.Call (given takes frame) ∷ below) ∙ count_call c (given takes frame) below ∙ sym (count_call c frame below))),
+              (λ c. count_call c callee (stack_frame.Call (without_arguments takes frame) ∷ below) ∙ count_call c (without_arguments takes frame) below ∙ sym (count_call c frame below))),
           (λ _ limited. (slice_get_within s.threads t thread stands.given_out, enters.few, can_be_locked stands.sound locked enters.is_locked limited, subst (λ o. IfSome o (λ (th : Thread). takes ≤ length (top_operands th.frames))) (sym stands.given_out) (subst (λ (fs : List Frame). takes ≤ length (top_operands fs)) (sym stands.frames_are) depth.there))),
           marked_with_lock program t n locked ∙ entered_mark program t (calls_of s t) _ n
               (changed_calls made.threads t thread (calling callee takes) on.given_out ∙ ap (λ (ms : List MethodNumber). n ∷ ms) (given_calls takes thread.frames ∙ sym (ap calls_in stands.given_out))),
           (λ _. tt),
         )
 
-    call_keeps : (receiver : Option ℕ) → IfSome receiver (IsReference s.heap) → (found : ResolvedMethod) (n : MethodNumber) (m : Method) → IsFound program r.descriptor found → method_number program found ≡ Some n → method_at program n ≡ Some m → m.descriptor ≡ r.descriptor → KeepsSound (call_decision program limits s t thread frame.activation receiver (taken how r.method_type) n m)
+    call_keeps : (receiver : Option ℕ) → IfSome receiver (IsReference s.heap) → (found : ResolvedMethod) (n : MethodNumber) (m : Method) → IsFound program r.descriptor found → method_number program found ≡ Some n → method_at program n ≡ Some m → m.descriptor ≡ r.descriptor → KeepsSound (call_decision program limits s t thread frame.activation receiver (slots_of_call how r.method_type) n m)
     call_keeps receiver reference found n m is number m_is same =
-        called_keeps stands n m receiver (taken how r.method_type) _ (λ body locked. decision.Makes (action.Calls n body (taken how r.method_type) locked)) reference
-        (native_keeps program limits start s t thread frame below stands (how, r, at) quiet (taken how r.method_type) m (slice_get program n.class) depth.there)
+        called_keeps stands n m receiver (slots_of_call how r.method_type) _ (λ body locked. decision.Applies (action.Calls n body (slots_of_call how r.method_type) locked)) reference
+        (native_keeps program limits start s t thread frame below stands (how, r, at) quiet (slots_of_call how r.method_type) m (slice_get program n.class) depth.there)
         (λ body locked enters. calls_keeps n m body locked m_is same enters)
 
-    numbered_keeps : (found : ResolvedMethod) (o : Option MethodNumber) (make : MethodNumber → Method → TurnDecision) → IsFound program r.descriptor found → method_number program found ≡ o → ((n : MethodNumber) (m : Method) → method_number program found ≡ Some n → method_at program n ≡ Some m → m.descriptor ≡ r.descriptor → KeepsSound (make n m)) → KeepsSound (numbered program o make)
+    numbered_keeps : (found : ResolvedMethod) (o : Option MethodNumber) (make : MethodNumber → Method → TurnDecision) → IsFound program r.descriptor found → method_number program found ≡ o → ((n : MethodNumber) (m : Method) → method_number program found ≡ Some n → method_at program n ≡ Some m → m.descriptor ≡ r.descriptor → KeepsSound (make n m)) → KeepsSound (with_method program o make)
     numbered_keeps found None make is number keeps = still t stands.sound
     numbered_keeps found (Some n) make is number keeps =
         numbered_by stands n (method_at program n) make refl (λ m m_is. keeps n m number m_is (numbered_has_descriptor program r.descriptor found n m is number m_is))
 
-    static_keeps : (found : ResolvedMethod) → IsFound program r.descriptor found → KeepsSound (static_call_decision program limits s t thread frame.activation (taken how r.method_type) found)
+    static_keeps : (found : ResolvedMethod) → IsFound program r.descriptor found → KeepsSound (static_call_decision program limits s t thread frame.activation (slots_of_call how r.method_type) found)
     static_keeps found is =
         numbered_keeps found (method_number program found) _ is refl
         (λ n m number m_is same. asking_keeps program limits start s t thread stands n.class _ (call_keeps None tt found n m is number m_is same))
 
-    selected_keeps : (q : ℕ) → IsReference s.heap q → (o : Option ResolvedMethod) → ((f : ResolvedMethod) → o ≡ Some f → IsFound program r.descriptor f) → KeepsSound (selected_decision program limits s t thread frame.activation q (taken how r.method_type) o)
+    selected_keeps : (q : ℕ) → IsReference s.heap q → (o : Option ResolvedMethod) → ((f : ResolvedMethod) → o ≡ Some f → IsFound program r.descriptor f) → KeepsSound (selected_decision program limits s t thread frame.activation q (slots_of_call how r.method_type) o)
     selected_keeps q reference None is = throws_keeps start stands thrown.AbstractMethodError
     selected_keeps q reference (Some found) is =
         numbered_keeps found (method_number program found) _ (is found refl) refl
@@ -271,7 +271,7 @@ module _ (program : List Class) (limits : Limits) (start : Start) (s : State) (t
     object_call_keeps found q None at_q is = still t stands.sound
     object_call_keeps found q (Some o) at_q is =
         cond_both (fits program (class_of o) found.class.name) _ _ KeepsSound
-        (λ _. selected_keeps q (leads_is_reference s.heap q o at_q) (selected program frame how r (class_of o) found) (λ f f_is. selected_is_found program frame how r (class_of o) r.descriptor found f is f_is))
+        (λ _. selected_keeps q (leads_is_reference s.heap q o at_q) (selected_method program frame how r (class_of o) found) (λ f f_is. selected_is_found program frame how r (class_of o) r.descriptor found f is f_is))
         (λ _. wrong_receiver_keeps how)
 
     receiver_keeps : (found : ResolvedMethod) (o : Option Value) → IsFound program r.descriptor found → KeepsSound (receiver_call_decision program limits s t thread frame how r found o)
@@ -290,9 +290,9 @@ module _ (program : List Class) (limits : Limits) (start : Start) (s : State) (t
   pub invoke_keeps : (frame : MethodFrame) (below : List Frame) (how : Invoke) (r : MethodReference) → HasFrames (stack_frame.Call frame ∷ below) → instruction_at frame ≡ Some (instruction.Invoke how r) → IsQuiet thread → KeepsSound (invoke_decision program limits s t thread frame how r)
   unfolding invoke_decision
   invoke_keeps frame below how r stands at quiet =
-      let deep = has_depth frame.body (taken how r.method_type) (result_length r.method_type.result) frame.activation in
+      let deep = has_depth frame.body (slots_of_call how r.method_type) (result_length r.method_type.result) frame.activation in
       cond_both (not deep) _ _ KeepsSound
       (λ _. still t stands.sound)
       (λ is_deep. cond_both (not (are_of_call how r.method_type frame.activation.operands)) _ _ KeepsSound
       (λ _. still t stands.sound)
-      (λ _. resolved_keeps frame below how r stands at (depth_is frame (taken how r.method_type) (result_length r.method_type.result) (not-false deep is_deep)) quiet (resolved_method program (is_static_call how) r) refl))
+      (λ _. resolved_keeps frame below how r stands at (depth_is frame (slots_of_call how r.method_type) (result_length r.method_type.result) (not-false deep is_deep)) quiet (resolved_method program (is_static_call how) r) refl))

@@ -24,7 +24,7 @@ use Rattle.jvms_machine.specs.State.{State, Thread, Frame, MethodFrame, new_thre
 use Rattle.jvms_machine.specs.Start.{Start}
 use Rattle.jvms_machine.specs.Limits.{are_limits}
 use Rattle.jvms_machine.specs.Activations.{HasRoom, has_depth}
-use Rattle.jvms_machine.specs.Fields.{read}
+use Rattle.jvms_machine.specs.Fields.{read_decision}
 use Rattle.jvms_machine.specs.Heap.{next_reference}
 use Rattle.jvms_machine.specs.Places.{value_size}
 use Rattle.jvms_machine.specs.Arrays.{if_deep, making}
@@ -80,7 +80,7 @@ affected_thread program s t operands (effect.GetStatic n) u thread at = at
 affected_thread program s t operands (effect.PutStatic n v) u thread at = ap (λ (ts : List Thread). slice_get ts u) (put_static_threads s v (field_key_at program n)) ∙ at
 affected_thread program s t operands (effect.LoadElement r i) u thread at = at
 affected_thread program s t operands (effect.StoreElement r i v) u thread at = at
-affected_thread program s t operands (effect.Makes what) u thread at = at
+affected_thread program s t operands (effect.Creates what) u thread at = at
 affected_thread program s t operands (effect.Prints what ends_line) u thread at = at
 affected_thread program s t operands (effect.Locks monitor) u thread at = at
 affected_thread program s t operands (effect.Unlocks monitor) u thread at = at
@@ -105,7 +105,7 @@ effect_is_no_mark program t (effect.GetStatic n) = read_is_no_mark t (static_var
 effect_is_no_mark program t (effect.PutStatic n v) = write_is_no_mark t (static_variable program n)
 effect_is_no_mark program t (effect.LoadElement r i) = refl
 effect_is_no_mark program t (effect.StoreElement r i v) = refl
-effect_is_no_mark program t (effect.Makes what) = refl
+effect_is_no_mark program t (effect.Creates what) = refl
 effect_is_no_mark program t (effect.Prints what ends_line) = refl
 effect_is_no_mark program t (effect.Locks monitor) = acquire_is_no_mark t monitor
 effect_is_no_mark program t (effect.Unlocks monitor) = release_is_no_mark t monitor
@@ -160,7 +160,7 @@ module _ (program : List Class) (limits : Limits) (start : Start) (s : State) (t
       let given_out = affected_thread program s t operands what t thread stands.given_out in
       changed_calls (affected program s t operands what).threads t thread (thread_after_action act) given_out ∙ gone_on_calls act thread.frames ∙ sym (ap calls_in stands.given_out)
 
-  pub reaches_keeps : (what : Effect (List ℕ)) (act : FrameAction) → (IsProgram program → IsMade program limits s t frame what act) → KeepsSound (decision.Makes (action.Reaches what act))
+  pub reaches_keeps : (what : Effect (List ℕ)) (act : FrameAction) → (IsProgram program → IsMade program limits s t frame what act) → KeepsSound (decision.Applies (action.Reaches what act))
   unfolding applied_to items_of
   reaches_keeps what act made = (
     (λ of_program.
@@ -180,7 +180,7 @@ module _ (program : List Class) (limits : Limits) (start : Start) (s : State) (t
 
   -- ---- Values that are read
 
-  pub read_keeps : (what : Effect (List ℕ)) (takes : ℕ) (o : Option Value) → Sound program limits (affected program s t frame.activation.operands what) → IfSome o (IsValue (affected program s t frame.activation.operands what).heap) → IsHeardEffect s what → CanBeMade s frame.activation.operands what → KeepsSound (read frame what takes o)
+  pub read_keeps : (what : Effect (List ℕ)) (takes : ℕ) (o : Option Value) → Sound program limits (affected program s t frame.activation.operands what) → IfSome o (IsValue (affected program s t frame.activation.operands what).heap) → IsHeardEffect s what → CanBeMade s frame.activation.operands what → KeepsSound (read_decision frame what takes o)
   read_keeps what takes None sound is heard can = still t stands.sound
   read_keeps what takes (Some v) sound is heard can =
       cond_both (has_depth frame.body takes (value_size v) frame.activation) _ _ KeepsSound
@@ -198,7 +198,7 @@ module _ (program : List Class) (limits : Limits) (start : Start) (s : State) (t
       let operands = frame.activation.operands in
       let new = new_objects program (next_reference s.heap) operands what in
       let longer = grown_length s.heap new in
-      reaches_keeps (effect.Makes what) (frame_action.Push takes (value.Reference (next_reference s.heap)))
+      reaches_keeps (effect.Creates what) (frame_action.Push takes (value.Reference (next_reference s.heap)))
       (λ of_program.
       let one = some of_program in
       record {

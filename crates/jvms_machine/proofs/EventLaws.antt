@@ -29,7 +29,7 @@ use Rattle.jvms_program.specs.Program.{key_of, field_key_at}
 use Rattle.jvms_machine.specs.Decisions.{TurnAction, TurnDecision}
 use Rattle.jvms_machine.specs.State.{State, Thread, new_thread, monitor_at, Sound}
 use Rattle.jvms_machine.specs.Start.{Start}
-use Rattle.jvms_machine.specs.Actions.{mark, event, instance_variable, static_variable, enter_items, exit_items, release_items, lock_items, unlock_items, effect_items, changed_to, with_changed, with_lock, with_unlock, with_waiter, with_retaken, put_to_wait, waited, with_result, with_exception, with_class_constants, put_field, put_static, affected, operands_of, thread_after_action, applied_to, items_of}
+use Rattle.jvms_machine.specs.Actions.{mark, event, instance_variable, static_variable, enter_items, exit_items, release_items, lock_items, unlock_items, effect_items, changed_to, with_changed, with_lock, with_unlock, with_waiter, with_retaken, put_to_wait, after_wait, with_result, with_exception, with_class_constants, put_field, put_static, affected, operands_of, thread_after_action, applied_to, items_of}
 use Rattle.jvms_machine.specs.Turn.{CanBeLocked, CanBeMade, IsReady, IsReadyToMake, state_after, items_after}
 use Rattle.jvms_machine.specs.Events.{is_acquire, is_release, is_fork, newly_held, acquires_between, releases_between, forks_between}
 use Rattle.jvms_machine.proofs.KeptStates.{IsLeft, IsHeardEffect, IsHeard, IsHeardOf}
@@ -211,7 +211,7 @@ beside_constants s (Some c) = (refl, refl)
 
 beside_exception : (program : List Class) (s : State) (e : Exception) → IsBeside s (with_exception program s e)
 beside_exception program s (exception.New class) = (refl, refl)
-beside_exception program s (exception.Held r) = (refl, refl)
+beside_exception program s (exception.Existing r) = (refl, refl)
 
 beside_result : (s : State) (t : ℕ) (result : Option Value) → IsBeside s (with_result s t result)
 beside_result s t result = cond_both (t == 0) _ _ (IsBeside s) (λ _. (refl, refl)) (λ _. (refl, refl))
@@ -256,7 +256,7 @@ module _ (program : List Class) (limits : Limits) (start : Start) (s : State) (t
   effect_is_told operands (effect.LoadElement r i) act can heard others = itself_is_told (thread_after_action act) _ (record { acquires = refl; releases = refl; forks = refl })
   effect_is_told operands (effect.StoreElement r i v) act can heard others =
       beside_is_told _ (thread_after_action act) _ (refl, refl) (record { acquires = refl; releases = refl; forks = refl })
-  effect_is_told operands (effect.Makes what) act can heard others = beside_is_told _ (thread_after_action act) _ (refl, refl) none_are_other
+  effect_is_told operands (effect.Creates what) act can heard others = beside_is_told _ (thread_after_action act) _ (refl, refl) none_are_other
   effect_is_told operands (effect.Prints what ends_line) act can heard others = beside_is_told _ (thread_after_action act) _ (refl, refl) none_are_other
   effect_is_told operands (effect.Locks monitor) act can heard others =
       let made = with_lock program s t (lock.Monitor monitor) in
@@ -309,14 +309,14 @@ module _ (program : List Class) (limits : Limits) (start : Start) (s : State) (t
       })
       refl refl refl
   action_is_told (action.Retakes w) ready heard =
-      let after = with_changed (with_retaken s t w) t waited in
+      let after = with_changed (with_retaken s t w) t after_wait in
       has_events t s after _ (w.reference ∷ []) []
-      (record { held_are = retaken_new t w s.monitors heard; free_are = retaken_old t w s.monitors; threads_are = as_many (with_retaken s t w) waited refl })
+      (record { held_are = retaken_new t w s.monitors heard; free_are = retaken_old t w s.monitors; threads_are = as_many (with_retaken s t w) after_wait refl })
       refl refl refl
   action_is_told (action.Raises e) ready heard = beside_is_told _ _ [] (beside_exception program s e) none_are_other
   action_is_told (action.Fails e) ready heard = beside_is_told _ _ [] (beside_exception program s e) none_are_other
 
   -- A decision that is ready and reports its events truly has the events that its states determine.
   pub decision_is_told : (d : TurnDecision) → IsReadyToMake start s t d → IsHeardOf s d → HasEventsOf t s (state_after program start s t d) (items_after program t d)
-  decision_is_told (decision.Makes act) ready heard = action_is_told act ready heard
-  decision_is_told (decision.Unmade o) ready heard = quiet t s s [] refl refl none_are_other
+  decision_is_told (decision.Applies act) ready heard = action_is_told act ready heard
+  decision_is_told (decision.Stays o) ready heard = quiet t s s [] refl refl none_are_other

@@ -33,15 +33,15 @@ throwable_by program heap r o at is reference =
 -- There is room for a new object, and an existing object is a Throwable.
 abbrev pub IsThrown : List Class → Limits → State → Exception → Type 0
 IsThrown program limits s (exception.New class) = length s.heap + 1 ≤ limits.objects
-IsThrown program limits s (exception.Held r) = IsProgram program → IsThrowable program s.heap r
+IsThrown program limits s (exception.Existing r) = IsProgram program → IsThrowable program s.heap r
 
-memory_is_thrown : (program : List Class) (limits : Limits) (s : State) → Sound program limits s → IsThrown program limits s (exception.Held 1)
+memory_is_thrown : (program : List Class) (limits : Limits) (s : State) → Sound program limits s → IsThrown program limits s (exception.Existing 1)
 unfolding thrown_class
 memory_is_thrown program limits s sound = λ is.
     let opened = sound.opened in
     throwable_by program s.heap 1 (instance (codes "java/lang/OutOfMemoryError") sound.out_of_memory.0) sound.out_of_memory.1 (thrown_fits program thrown.OutOfMemoryError is) (omega arith, omega arith)
 
-overflow_is_thrown : (program : List Class) (limits : Limits) (s : State) → Sound program limits s → IsThrown program limits s (exception.Held 2)
+overflow_is_thrown : (program : List Class) (limits : Limits) (s : State) → Sound program limits s → IsThrown program limits s (exception.Existing 2)
 unfolding thrown_class
 overflow_is_thrown program limits s sound = λ is.
     let opened = sound.opened in
@@ -51,7 +51,7 @@ pub exception_is_thrown : (program : List Class) (limits : Limits) (s : State) �
 exception_is_thrown program limits s sound thrown.OutOfMemoryError = memory_is_thrown program limits s sound
 exception_is_thrown program limits s sound thrown.StackOverflowError = overflow_is_thrown program limits s sound
 exception_is_thrown program limits s sound class =
-    cond_both (has_room_for 1 limits s) (exception.New class) (exception.Held 1) (IsThrown program limits s)
+    cond_both (has_room_for 1 limits s) (exception.New class) (exception.Existing 1) (IsThrown program limits s)
     (λ room. leb-true (length s.heap + 1) limits.objects room) (λ _. memory_is_thrown program limits s sound)
 
 -- A new object of a thrown class is a Throwable.
@@ -64,7 +64,7 @@ new_is_throwable program heap class is =
 -- The thrown object is a Throwable in the state with it.
 pub exception_is_throwable : (program : List Class) (limits : Limits) (s : State) (e : Exception) → IsThrown program limits s e → IsProgram program → IsThrowable program (with_exception program s e).heap (exception_reference s e)
 exception_is_throwable program limits s (exception.New class) room is = new_is_throwable program s.heap class is
-exception_is_throwable program limits s (exception.Held r) throwable is = throwable is
+exception_is_throwable program limits s (exception.Existing r) throwable is = throwable is
 
 -- ---- Its thread
 
@@ -75,7 +75,7 @@ stands_with_exception {program = program} {limits = limits} {s = s} stands (exce
     let grown : State = record s { heap = s.heap ++ new ∷ [] } in
     let grown_sound : Sound program limits grown = appended_is_sound stands.sound (new ∷ []) s.elements (first_instance_is program (s.heap ++ new ∷ []) (thrown_class class), tt) room stands.sound.elements in
     record { sound = grown_sound; given_out = stands.given_out; awake = stands.awake; frames_are = stands.frames_are }
-stands_with_exception stands (exception.Held r) throwable = stands
+stands_with_exception stands (exception.Existing r) throwable = stands
 
 -- A thread with a pending exception, which may have ended with it.
 abbrev struck : (Bool → Bool) → ℕ → Thread → Thread
@@ -96,7 +96,7 @@ module _ (program : List Class) (limits : Limits) (t : ℕ) (thread : Thread) (f
   -- The thread has the same calls.
   thrown_calls : (s : State) → Stands program limits s t thread frames → (e : Exception) (r : ℕ) → calls_of (with_changed (with_exception program s e) t (struck finish r)) t ≡ calls_of s t
   thrown_calls s stands (exception.New class) r = changed_calls s.threads t thread (struck finish r) stands.given_out ∙ sym (ap calls_in stands.given_out)
-  thrown_calls s stands (exception.Held q) r = changed_calls s.threads t thread (struck finish r) stands.given_out ∙ sym (ap calls_in stands.given_out)
+  thrown_calls s stands (exception.Existing q) r = changed_calls s.threads t thread (struck finish r) stands.given_out ∙ sym (ap calls_in stands.given_out)
 
 -- ---- The turn
 

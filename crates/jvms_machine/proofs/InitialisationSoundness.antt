@@ -14,7 +14,7 @@ use Rattle.jvms_machine.specs.State.{State, Thread, Frame, IsWait, Sound}
 use Rattle.jvms_machine.specs.Exceptions.{has_room_for}
 use Rattle.jvms_machine.specs.Start.{Start}
 use Rattle.jvms_machine.specs.Initialisation.{constants_of, new_texts, begin_decision, requiring_class_in, asking}
-use Rattle.jvms_machine.specs.Actions.{with_changed, with_class_constants, with_initialisation, begun, applied_to, items_of}
+use Rattle.jvms_machine.specs.Actions.{with_changed, with_class_constants, with_initialisation, with_initialisation_frame, applied_to, items_of}
 use Rattle.jvms_machine.specs.Marks.{calls_in, calls_of}
 use Rattle.jvms_machine.proofs.LimitLaws.{room_is}
 use Rattle.jvms_machine.proofs.ConstantSoundness.{class_constants_are_sound}
@@ -34,17 +34,17 @@ module _ (program : List Class) (limits : Limits) (start : Start) (s : State) (t
   -- ---- A required initialisation
 
   -- A class that begins, in the state with its constants.
-  begun_is_sound : {frames : List Frame} (made : State) → Stands program limits made t thread frames → made.initialisations ≡ s.initialisations → (class : ℕ) (c : Class) → slice_get s.initialisations class ≡ Some initialisation.NotBegun → slice_get program class ≡ Some c → length thread.frames < limits.frames → Sound program limits (with_initialisation (with_changed made t (begun class)) class (initialisation.InProgress t))
+  begun_is_sound : {frames : List Frame} (made : State) → Stands program limits made t thread frames → made.initialisations ≡ s.initialisations → (class : ℕ) (c : Class) → slice_get s.initialisations class ≡ Some initialisation.NotBegun → slice_get program class ≡ Some c → length thread.frames < limits.frames → Sound program limits (with_initialisation (with_changed made t (with_initialisation_frame class)) class (initialisation.InProgress t))
   begun_is_sound made stands same class c begins is room =
       let was = thread_is stands in
       let begins_there : slice_get made.initialisations class ≡ Some initialisation.NotBegun = ap (λ (is : List Initialisation). slice_get is class) same ∙ begins in
-      changed_is_sound stands (begun class) (slice_set made.initialisations class (initialisation.InProgress t)) made.result (refl, refl)
-      ((slice_get_within program class c is, was.0), stack_begun program class false thread.frames was.1, omega arith, was.3, was.4, subst (λ o. IfSome o (IsWait made.heap (begun class thread))) (sym stands.awake) tt)
+      changed_is_sound stands (with_initialisation_frame class) (slice_set made.initialisations class (initialisation.InProgress t)) made.result (refl, refl)
+      ((slice_get_within program class c is, was.0), stack_begun program class false thread.frames was.1, omega arith, was.3, was.4, subst (λ o. IfSome o (IsWait made.heap (with_initialisation_frame class thread))) (sym stands.awake) tt)
       (length-set made.initialisations class (initialisation.InProgress t))
-      (order_begun made.threads made.initialisations t thread (begun class thread) stands.given_out stands.sound.initialised class begins_there refl)
+      (order_begun made.threads made.initialisations t thread (with_initialisation_frame class thread) stands.given_out stands.sound.initialised class begins_there refl)
       stands.sound.result
 
-  begins_keeps : {frames : List Frame} → HasFrames frames → (class : ℕ) (c : Class) → slice_get s.initialisations class ≡ Some initialisation.NotBegun → slice_get program class ≡ Some c → length s.heap + length (new_texts s.heap (constants_of c.fields)) ≤ limits.objects → length thread.frames < limits.frames → KeepsSound (decision.Makes (action.Begins class))
+  begins_keeps : {frames : List Frame} → HasFrames frames → (class : ℕ) (c : Class) → slice_get s.initialisations class ≡ Some initialisation.NotBegun → slice_get program class ≡ Some c → length s.heap + length (new_texts s.heap (constants_of c.fields)) ≤ limits.objects → length thread.frames < limits.frames → KeepsSound (decision.Applies (action.Begins class))
   unfolding applied_to items_of
   begins_keeps {frames = frames} stands class c begins is has_room room =
       let made = with_class_constants s (Some c) in
@@ -52,7 +52,7 @@ module _ (program : List Class) (limits : Limits) (start : Start) (s : State) (t
       rw is (
         (λ _. begun_is_sound made stands_there refl class c begins is room),
         (λ _ _. tt),
-        unmarked_by program t (calls_of s t) _ (changed_calls s.threads t thread (begun class) stands.given_out ∙ sym (ap calls_in stands.given_out)),
+        unmarked_by program t (calls_of s t) _ (changed_calls s.threads t thread (with_initialisation_frame class) stands.given_out ∙ sym (ap calls_in stands.given_out)),
         (λ _. tt),
       )
 
@@ -66,14 +66,14 @@ module _ (program : List Class) (limits : Limits) (start : Start) (s : State) (t
       (λ _. throws_keeps start stands thrown.StackOverflowError)
       (λ room. begins_keeps stands class c begins is (room_is texts limits s (not-false (has_room_for texts limits s) has)) (leb-false limits.frames (length thread.frames) room)))
 
-  asking_at_keeps : {frames : List Frame} → HasFrames frames → (class : ℕ) (o : Option Initialisation) (go_on : TurnDecision) → slice_get s.initialisations class ≡ o → KeepsSound go_on → KeepsSound (requiring_class_in program limits s t thread class o go_on)
-  asking_at_keeps stands class None go_on is keeps = still t stands.sound
-  asking_at_keeps stands class (Some initialisation.NotBegun) go_on is keeps = begin_keeps stands class (slice_get program class) is refl
-  asking_at_keeps stands class (Some (initialisation.InProgress u)) go_on is keeps =
-      cond_both (u == t) go_on _ KeepsSound (λ _. keeps) (λ _. still t stands.sound)
-  asking_at_keeps stands class (Some initialisation.Done) go_on is keeps = keeps
-  asking_at_keeps stands class (Some initialisation.Erroneous) go_on is keeps = throws_keeps start stands thrown.NoClassDefFoundError
+  asking_at_keeps : {frames : List Frame} → HasFrames frames → (class : ℕ) (o : Option Initialisation) (continued : TurnDecision) → slice_get s.initialisations class ≡ o → KeepsSound continued → KeepsSound (requiring_class_in program limits s t thread class o continued)
+  asking_at_keeps stands class None continued is keeps = still t stands.sound
+  asking_at_keeps stands class (Some initialisation.NotBegun) continued is keeps = begin_keeps stands class (slice_get program class) is refl
+  asking_at_keeps stands class (Some (initialisation.InProgress u)) continued is keeps =
+      cond_both (u == t) continued _ KeepsSound (λ _. keeps) (λ _. still t stands.sound)
+  asking_at_keeps stands class (Some initialisation.Done) continued is keeps = keeps
+  asking_at_keeps stands class (Some initialisation.Erroneous) continued is keeps = throws_keeps start stands thrown.NoClassDefFoundError
 
   -- A turn that requires the initialisation of a class.
-  pub asking_keeps : {frames : List Frame} → HasFrames frames → (class : ℕ) (go_on : TurnDecision) → KeepsSound go_on → KeepsSound (asking program limits s t thread class go_on)
-  asking_keeps stands class go_on keeps = asking_at_keeps stands class (slice_get s.initialisations class) go_on refl keeps
+  pub asking_keeps : {frames : List Frame} → HasFrames frames → (class : ℕ) (continued : TurnDecision) → KeepsSound continued → KeepsSound (asking program limits s t thread class continued)
+  asking_keeps stands class continued keeps = asking_at_keeps stands class (slice_get s.initialisations class) continued refl keeps

@@ -20,9 +20,9 @@ use Rattle.jvms_program.specs.Program.{IsProgram, HasItsFlags}
 use Rattle.jvms_machine.specs.Decisions.{TurnDecision}
 use Rattle.jvms_machine.specs.State.{State, Thread, Frame, is_synchronized_at, is_initialisation_of}
 use Rattle.jvms_machine.specs.Start.{Start}
-use Rattle.jvms_machine.specs.Calls.{entered}
+use Rattle.jvms_machine.specs.Calls.{frame_of_call}
 use Rattle.jvms_machine.specs.Initialisation.{initializer_of, asked_superclass, initializer_call, initializer_decision, superclass_decision, initialisation_decision}
-use Rattle.jvms_machine.specs.Actions.{popped, initializer_called, initialising, applied_to, items_of}
+use Rattle.jvms_machine.specs.Actions.{without_top, initializer_called, initialising, applied_to, items_of}
 use Rattle.jvms_machine.specs.Marks.{calls, calls_in, calls_of}
 use Rattle.jvms_machine.proofs.ListLaws.{all_at, count_by_cons}
 use Rattle.jvms_machine.proofs.SearchLaws.{find_passes, position_leads}
@@ -65,20 +65,20 @@ module _ (program : List Class) (limits : Limits) (start : Start) (s : State) (t
   HasFrames frames = Stands program limits s t thread frames
 
   -- A class that is done.
-  finishes_keeps : (class : ℕ) (called : Bool) (below : List Frame) → HasFrames (stack_frame.Initialisation class called ∷ below) → KeepsSound (decision.Makes (action.Finishes class))
+  finishes_keeps : (class : ℕ) (called : Bool) (below : List Frame) → HasFrames (stack_frame.Initialisation class called ∷ below) → KeepsSound (decision.Applies (action.Finishes class))
   unfolding applied_to items_of
   finishes_keeps class called below stands =
       let frames = frames_are_stack stands in
-      let below_is : (popped thread).frames ≡ below = ap (λ (fs : List Frame). drop 1 fs) stands.frames_are in
+      let below_is : (without_top thread).frames ≡ below = ap (λ (fs : List Frame). drop 1 fs) stands.frames_are in
       let fits : length below ≤ limits.frames = omega arith in (
-        (λ _. changed_is_sound stands popped (slice_set s.initialisations class initialisation.Done) s.result (refl, refl)
-            (thread_with_frames stands (popped thread) below below_is refl (refl, refl) frames.0.1 (stack_below program (stack_frame.Initialisation class called) below frames.1) fits)
+        (λ _. changed_is_sound stands without_top (slice_set s.initialisations class initialisation.Done) s.result (refl, refl)
+            (thread_with_frames stands (without_top thread) below below_is refl (refl, refl) frames.0.1 (stack_below program (stack_frame.Initialisation class called) below frames.1) fits)
             (length-set s.initialisations class initialisation.Done)
-            (order_over s.threads s.initialisations t thread (popped thread) stands.given_out stands.sound.initialised class called initialisation.Done (λ u. refl)
+            (order_over s.threads s.initialisations t thread (without_top thread) stands.given_out stands.sound.initialised class called initialisation.Done (λ u. refl)
             (stands.frames_are ∙ ap (λ (fs : List Frame). stack_frame.Initialisation class called ∷ fs) (sym below_is)))
             stands.sound.result),
         (λ _ _. tt),
-        unmarked_by program t (calls_of s t) _ (changed_calls s.threads t thread popped stands.given_out ∙ ap (λ (fs : List Frame). calls (drop 1 fs)) stands.frames_are ∙ sym (ap calls stands.frames_are) ∙ sym (ap calls_in stands.given_out)),
+        unmarked_by program t (calls_of s t) _ (changed_calls s.threads t thread without_top stands.given_out ∙ ap (λ (fs : List Frame). calls (drop 1 fs)) stands.frames_are ∙ sym (ap calls stands.frames_are) ∙ sym (ap calls_in stands.given_out)),
         (λ _. tt),
       )
 
@@ -90,11 +90,11 @@ module _ (program : List Class) (limits : Limits) (start : Start) (s : State) (t
     pub room : length thread.frames < limits.frames
 
   -- The `<clinit>` is called.
-  initialises_keeps : (class n : ℕ) (c : Class) (body : Body) (below : List Frame) → HasFrames (stack_frame.Initialisation class false ∷ below) → IsInitializer class n c body → KeepsSound (decision.Makes (action.Initialises (record { class = class; method = n }) body))
+  initialises_keeps : (class n : ℕ) (c : Class) (body : Body) (below : List Frame) → HasFrames (stack_frame.Initialisation class false ∷ below) → IsInitializer class n c body → KeepsSound (decision.Applies (action.Initialises (record { class = class; method = n }) body))
   unfolding applied_to items_of
   initialises_keeps class n c body below stands is =
       let method : MethodNumber = record { class = class; method = n } in
-      let frame = entered method body None [] in
+      let frame = frame_of_call method body None [] in
       let frames = frames_are_stack stands in
       let now = stack_frame.Call frame ∷ stack_frame.Initialisation class true ∷ below in
       let are : (initialising frame thread).frames ≡ now = ap (λ (fs : List Frame). stack_frame.Call frame ∷ initializer_called fs) stands.frames_are in
@@ -126,9 +126,9 @@ module _ (program : List Class) (limits : Limits) (start : Start) (s : State) (t
   initializer_keeps class c below None stands is number = finishes_keeps class false below stands
   initializer_keeps class c below (Some n) stands is number = initializer_call_keeps class n c below _ stands is number refl
 
-  superclass_keeps : {frames : List Frame} → HasFrames frames → (o : Option ℕ) (go_on : TurnDecision) → KeepsSound go_on → KeepsSound (superclass_decision program limits s t thread o go_on)
-  superclass_keeps stands None go_on keeps = keeps
-  superclass_keeps stands (Some super) go_on keeps = asking_keeps program limits start s t thread stands super go_on keeps
+  superclass_keeps : {frames : List Frame} → HasFrames frames → (o : Option ℕ) (continued : TurnDecision) → KeepsSound continued → KeepsSound (superclass_decision program limits s t thread o continued)
+  superclass_keeps stands None continued keeps = keeps
+  superclass_keeps stands (Some super) continued keeps = asking_keeps program limits start s t thread stands super continued keeps
 
   pub initialisation_keeps : (class : ℕ) (called : Bool) (below : List Frame) (o : Option Class) → HasFrames (stack_frame.Initialisation class called ∷ below) → slice_get program class ≡ o → KeepsSound (initialisation_decision program limits s t thread class called o)
   initialisation_keeps class called below None stands is = still t stands.sound

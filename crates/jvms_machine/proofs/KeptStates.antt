@@ -43,7 +43,7 @@ IsHeard s (action.Retakes w) = monitor_at s.monitors w.reference ≡ None
 IsHeard s _ = Unit {0}
 
 abbrev pub IsHeardOf : State → TurnDecision → Type 0
-IsHeardOf s (decision.Makes act) = IsHeard s act
+IsHeardOf s (decision.Applies act) = IsHeard s act
 IsHeardOf s _ = Unit {0}
 
 -- If the classes are a program, the state after the decision is sound. Within limits, the decision can be applied.

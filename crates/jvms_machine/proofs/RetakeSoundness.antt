@@ -12,7 +12,7 @@ use Rattle.jvms_program.specs.declared.program.Class.{Class}
 use Rattle.jvms_machine.specs.Decisions.{TurnDecision}
 use Rattle.jvms_machine.specs.State.{State, Object, Thread, Frame, monitor_at, waits_for, IsAtInvoke, IsFrame, IsThread, IsWait, Sound}
 use Rattle.jvms_machine.specs.Start.{Start}
-use Rattle.jvms_machine.specs.Actions.{stack_after_return, changed_to, waited, with_changed, with_retaken, applied_to, items_of}
+use Rattle.jvms_machine.specs.Actions.{stack_after_return, changed_to, after_wait, with_changed, with_retaken, applied_to, items_of}
 use Rattle.jvms_machine.specs.Marks.{calls_in, calls_of}
 use Rattle.jvms_machine.specs.Waiting.{is_waiter, retaking, waiting_decision}
 use Rattle.jvms_machine.proofs.ListLaws.{all_at, all_set, get_set_same}
@@ -39,7 +39,7 @@ module _ (program : List Class) (limits : Limits) (start : Start) (s : State) (t
   wait_is : IsWait s.heap thread w
   wait_is = subst (λ o. IfSome o (IsWait s.heap thread)) waits thread_is_one.5
 
-  thread_goes_on : IsThread program limits s.heap (waited thread)
+  thread_goes_on : IsThread program limits s.heap (after_wait thread)
   thread_goes_on =
       let is = thread_is_one in (
         gone_on_frames program s.heap thread.frames wait_is.3 is.0,
@@ -50,9 +50,9 @@ module _ (program : List Class) (limits : Limits) (start : Start) (s : State) (t
         tt,
       )
 
-  retaken_is_sound : is_waiter t s.waiters ≡ false → Sound program limits (with_changed (with_retaken s t w) t waited)
+  retaken_is_sound : is_waiter t s.waiters ≡ false → Sound program limits (with_changed (with_retaken s t w) t after_wait)
   retaken_is_sound notified =
-      let after = waited thread in
+      let after = after_wait thread in
       let threads = slice_set s.threads t after in
       let as_many = length-set s.threads t after in
       let there = slice_get_within s.threads t thread given_out in
@@ -60,7 +60,7 @@ module _ (program : List Class) (limits : Limits) (start : Start) (s : State) (t
       let are = monitors_held s.heap s.threads threads (omega arith) s.monitors (owners_awake s.heap s.threads threads stays s.monitors sound.monitors) sound.monitors in
       let awake : waits_for w.reference (slice_get threads t) ≡ false = ap (waits_for w.reference) (get_set_same s.threads t thread after given_out) in
       let others = notified_is_other t s.waiters notified in
-      subst (λ o. Sound program limits (record (with_retaken s t w) { threads = changed_to s.threads t waited o })) (sym given_out)
+      subst (λ o. Sound program limits (record (with_retaken s t w) { threads = changed_to s.threads t after_wait o })) (sym given_out)
       (record {
         opened = sound.opened;
         objects_are = sound.objects_are;
@@ -81,12 +81,12 @@ module _ (program : List Class) (limits : Limits) (start : Start) (s : State) (t
         thread_count = subst (λ n. n ≤ limits.threads) (sym as_many) sound.thread_count;
       })
 
-  retakes_keeps : is_waiter t s.waiters ≡ false → monitor_at s.monitors w.reference ≡ None → KeepsSound (decision.Makes (action.Retakes w))
+  retakes_keeps : is_waiter t s.waiters ≡ false → monitor_at s.monitors w.reference ≡ None → KeepsSound (decision.Applies (action.Retakes w))
   unfolding applied_to items_of
   retakes_keeps notified free = (
     (λ _. retaken_is_sound notified),
     (λ _ _. slice_get_within s.threads t thread given_out),
-    unmarked_by program t (calls_of s t) _ (changed_calls s.threads t thread waited given_out ∙ returned_calls None thread.frames ∙ sym (ap calls_in given_out)),
+    unmarked_by program t (calls_of s t) _ (changed_calls s.threads t thread after_wait given_out ∙ returned_calls None thread.frames ∙ sym (ap calls_in given_out)),
     (λ _. free),
   )
 

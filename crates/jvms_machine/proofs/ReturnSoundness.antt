@@ -26,7 +26,7 @@ use Rattle.jvms_machine.specs.Start.{Start}
 use Rattle.jvms_machine.specs.Locals.{is_profile_kind}
 use Rattle.jvms_machine.specs.Places.{kind_of_type, kind_size, top_value, value_size}
 use Rattle.jvms_machine.specs.Returns.{gives_kind, gives_nothing, method_return_decision, return_decision, return_top_decision, return_value_decision, returned_decision, returns_to, same_kind}
-use Rattle.jvms_machine.specs.Actions.{with_unlock, changed_to, ended, with_returned, frame_after_return, stack_after_return, returned, with_changed, applied_to, items_of}
+use Rattle.jvms_machine.specs.Actions.{with_unlock, changed_to, after_end, with_returned, frame_after_return, stack_after_return, after_return, with_changed, applied_to, items_of}
 use Rattle.jvms_machine.specs.Marks.{calls, calls_in, calls_of}
 use Rattle.jvms_machine.specs.Turn.{HasRoomFor}
 use Rattle.jvms_machine.proofs.InitialisationOrder.{order_with_thread, count_call}
@@ -104,17 +104,17 @@ module _ (program : List Class) (limits : Limits) (start : Start) (s : State) (t
   HasFrames frames = Stands program limits s t thread frames
 
   -- The thread ends, with a result that is a value.
-  ended_is_sound : (made : State) (frame : MethodFrame) (result : Option Value) → Stands program limits made t thread (stack_frame.Call frame ∷ []) → IfSome result (IsValue made.heap) → Sound program limits (record made { threads = changed_to made.threads t ended (slice_get made.threads t); result = result })
+  ended_is_sound : (made : State) (frame : MethodFrame) (result : Option Value) → Stands program limits made t thread (stack_frame.Call frame ∷ []) → IfSome result (IsValue made.heap) → Sound program limits (record made { threads = changed_to made.threads t after_end (slice_get made.threads t); result = result })
   ended_is_sound made frame result stands result_is =
       let was = thread_is stands in
-      changed_is_sound stands ended made.initialisations result (refl, refl)
-      (tt, tt, omega arith, was.3, was.4, subst (λ o. IfSome o (IsWait made.heap (ended thread))) (sym stands.awake) tt)
+      changed_is_sound stands after_end made.initialisations result (refl, refl)
+      (tt, tt, omega arith, was.3, was.4, subst (λ o. IfSome o (IsWait made.heap (after_end thread))) (sym stands.awake) tt)
       refl
-      (order_with_thread made.threads made.initialisations t thread (ended thread) stands.given_out stands.sound.initialised
+      (order_with_thread made.threads made.initialisations t thread (after_end thread) stands.given_out stands.sound.initialised
       (λ c. sym (count_call c frame []) ∙ sym (ap (count_by (is_initialisation_of c)) stands.frames_are)))
       result_is
 
-  ends_keeps : (frame : MethodFrame) (result : Option Value) → HasFrames (stack_frame.Call frame ∷ []) → IfSome result (IsValue s.heap) → (unlock : Option MonitorUse) → IfSome unlock (IsLeft s) → KeepsSound (decision.Makes (action.Ends frame.method result unlock))
+  ends_keeps : (frame : MethodFrame) (result : Option Value) → HasFrames (stack_frame.Call frame ∷ []) → IfSome result (IsValue s.heap) → (unlock : Option MonitorUse) → IfSome unlock (IsLeft s) → KeepsSound (decision.Applies (action.Ends frame.method result unlock))
   unfolding applied_to items_of
   ends_keeps frame result stands result_is unlock is_left =
       let made = with_unlock s unlock in
@@ -124,12 +124,12 @@ module _ (program : List Class) (limits : Limits) (start : Start) (s : State) (t
         (λ _ _. tt),
         marked_with_unlock program t frame.method unlock ∙ left_mark program t (calls_of s t) _ frame.method
             (ap calls_in stands.given_out ∙ ap calls stands.frames_are
-            ∙ ap (λ (ms : List MethodNumber). frame.method ∷ ms) (sym (result_calls (with_changed made t ended) t result ∙ changed_calls made.threads t thread ended there.given_out))),
+            ∙ ap (λ (ms : List MethodNumber). frame.method ∷ ms) (sym (result_calls (with_changed made t after_end) t result ∙ changed_calls made.threads t thread after_end there.given_out))),
         (λ _. is_left),
       )
 
   -- The caller continues.
-  returns_keeps : (frame : MethodFrame) (f : Frame) (below : List Frame) (result : Option Value) → HasFrames (stack_frame.Call frame ∷ f ∷ below) → IfSome result (IsValue s.heap) → HasRoomFor result (f ∷ below) → (unlock : Option MonitorUse) → IfSome unlock (IsLeft s) → KeepsSound (decision.Makes (action.Returns frame.method result unlock))
+  returns_keeps : (frame : MethodFrame) (f : Frame) (below : List Frame) (result : Option Value) → HasFrames (stack_frame.Call frame ∷ f ∷ below) → IfSome result (IsValue s.heap) → HasRoomFor result (f ∷ below) → (unlock : Option MonitorUse) → IfSome unlock (IsLeft s) → KeepsSound (decision.Applies (action.Returns frame.method result unlock))
   unfolding applied_to items_of
   returns_keeps frame f below result stands result_is room unlock is_left =
       let made = with_unlock s unlock in
@@ -137,10 +137,10 @@ module _ (program : List Class) (limits : Limits) (start : Start) (s : State) (t
       let result_there : IfSome result (IsValue made.heap) = subst (λ heap. IfSome result (IsValue heap)) (sym (unlocked_heap s unlock)) result_is in
       let frames = frames_are_stack there in
       let now = stack_after_return result (f ∷ below) in
-      let are : (returned result thread).frames ≡ now = ap (λ (fs : List Frame). stack_after_return result (drop 1 fs)) stands.frames_are in
+      let are : (after_return result thread).frames ≡ now = ap (λ (fs : List Frame). stack_after_return result (drop 1 fs)) stands.frames_are in
       let as_many : length now ≡ length (f ∷ below) = returned_length result (f ∷ below) in
       let few = frames.2 in (
-        (λ _. moved_is_sound there (returned result) now are refl (refl, refl)
+        (λ _. moved_is_sound there (after_return result) now are refl (refl, refl)
             (returned_frames program made.heap result f below room result_there frames.0.1)
             (returned_stack program result (f ∷ below) frames.1.1)
             (omega arith)
@@ -148,7 +148,7 @@ module _ (program : List Class) (limits : Limits) (start : Start) (s : State) (t
         (λ _ _. (slice_get_within s.threads t thread stands.given_out, subst (λ o. IfSome o (λ (th : Thread). HasRoomFor result (drop 1 th.frames))) (sym stands.given_out) (subst (λ (fs : List Frame). HasRoomFor result (drop 1 fs)) (sym stands.frames_are) room))),
         marked_with_unlock program t frame.method unlock ∙ left_mark program t (calls_of s t) _ frame.method
             (ap calls_in stands.given_out ∙ ap calls stands.frames_are
-            ∙ ap (λ (ms : List MethodNumber). frame.method ∷ ms) (sym (changed_calls made.threads t thread (returned result) there.given_out ∙ ap calls are ∙ returned_calls result (f ∷ below)))),
+            ∙ ap (λ (ms : List MethodNumber). frame.method ∷ ms) (sym (changed_calls made.threads t thread (after_return result) there.given_out ∙ ap calls are ∙ returned_calls result (f ∷ below)))),
         (λ _. is_left),
       )
 

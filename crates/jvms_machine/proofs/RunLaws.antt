@@ -6,7 +6,7 @@ use Rattle.jvms_machine.specs.declared.machine.Limits.{Limits}
 use Rattle.jvms_machine.specs.Start.{Start}
 use Rattle.jvms_machine.specs.State.{State}
 use Rattle.jvms_machine.specs.Turn.{Transition, turn}
-use Rattle.jvms_machine.specs.Run.{RunResult, before, joined, run_from}
+use Rattle.jvms_machine.specs.Run.{RunResult, with_first, joined, run_from}
 
 pub run_append : (program : List Class) (limits : Limits) (start : Start) (s : State) (xs ys : List ℕ)
     → run_from program limits start s (xs ++ ys) ≡ joined (run_from program limits start s xs) (run_from program limits start (run_from program limits start s xs).state ys)
@@ -16,7 +16,7 @@ run_append program limits start s (x ∷ xs) ys =
     let row = turn program limits start s x in
     let r = run_from program limits start row.state xs in
     let q = run_from program limits start r.state ys in
-    ap (before row) (run_append program limits start row.state xs ys)
+    ap (with_first row) (run_append program limits start row.state xs ys)
     ∙ ap (λ items. record { outcomes = row.outcome ∷ r.outcomes ++ q.outcomes; state = q.state; items = items }) (sym (append_assoc row.items r.items q.items))
 
 -- Returns the result of one transition.

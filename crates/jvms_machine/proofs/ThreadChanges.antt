@@ -9,7 +9,7 @@ use Rattle.jvms_machine.specs.declared.state.Initialisation.{Initialisation}
 use Rattle.jvms_machine.specs.declared.state.StackFrame.TheVariants as stack_frame
 use Rattle.jvms_program.specs.declared.program.Class.{Class}
 use Rattle.jvms_machine.specs.State.{State, Object, Activation, Thread, Frame, MethodFrame, IsValue, AreMonitors, AreWaiters, IsFrame, IsStack, IsThread, IsWait, is_wait_for, waits_for, IsReference, IsThrowable, is_initialisation_of, same_object, HaveOwnObjects, IsInitialisedInOrder, Sound}
-use Rattle.jvms_machine.specs.Actions.{changed_to, given}
+use Rattle.jvms_machine.specs.Actions.{changed_to, without_arguments}
 use Rattle.jvms_machine.proofs.ListLaws.{all_set, all_at, all_drop}
 use Rattle.jvms_machine.proofs.InitialisationOrder.{order_with_thread}
 
@@ -89,7 +89,7 @@ stack_goes_on program frame after (stack_frame.Call lower ∷ below) stack = sta
 stack_goes_on program frame after (stack_frame.Initialisation class called ∷ below) stack = stack
 
 -- A call without the operands that another took is a frame.
-pub given_is_frame : (program : List Class) (heap : List Object) (takes : ℕ) (frame : MethodFrame) → IsFrame program heap (stack_frame.Call frame) → IsFrame program heap (stack_frame.Call (given takes frame))
+pub given_is_frame : (program : List Class) (heap : List Object) (takes : ℕ) (frame : MethodFrame) → IsFrame program heap (stack_frame.Call frame) → IsFrame program heap (stack_frame.Call (without_arguments takes frame))
 given_is_frame program heap takes frame is =
     let few : length frame.activation.operands ≤ frame.body.max_stack = is.1.1 in
     (is.0, (is.1.0, omega (arith, length-drop takes frame.activation.operands)), is.2, all_drop (IsValue heap) takes frame.activation.operands is.3, is.4, is.5)

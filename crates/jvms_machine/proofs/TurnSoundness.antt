@@ -54,7 +54,7 @@ module _ (program : List Class) (limits : Limits) (start : Start) (s : State) (t
     -- ---- Instructions
 
     -- The top call continues.
-    goes_keeps : (frame : MethodFrame) (below : List Frame) (act : FrameAction) → HasFrames (stack_frame.Call frame ∷ below) → top_step thread.frames ≡ frame_decided.Does act → frame_soundness.Keeps s.heap frame.body frame.activation (frame_decided.Does act) → KeepsSound (decision.Makes (action.Goes act))
+    goes_keeps : (frame : MethodFrame) (below : List Frame) (act : FrameAction) → HasFrames (stack_frame.Call frame ∷ below) → top_step thread.frames ≡ frame_decided.Does act → frame_soundness.Keeps s.heap frame.body frame.activation (frame_decided.Does act) → KeepsSound (decision.Applies (action.Goes act))
     unfolding applied_to items_of
     goes_keeps frame below act stands does keeps = (
       (λ _. gone_on_is_sound frame below act stands keeps.0 keeps.1),

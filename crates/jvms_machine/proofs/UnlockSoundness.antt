@@ -15,7 +15,7 @@ use Rattle.jvms_machine.specs.State.{State, Thread, Frame, MethodFrame, Sound}
 use Rattle.jvms_machine.specs.Start.{Start}
 use Rattle.jvms_machine.specs.Exceptions.{exception_of, exception_reference}
 use Rattle.jvms_machine.specs.Monitors.{leaving, unlocking, is_empty, fails_to_unlock}
-use Rattle.jvms_machine.specs.Actions.{raised, unwound, with_changed, with_exception, applied_to, items_of}
+use Rattle.jvms_machine.specs.Actions.{with_pending, unwound, with_changed, with_exception, applied_to, items_of}
 use Rattle.jvms_machine.specs.Marks.{calls, calls_in, calls_of}
 use Rattle.jvms_machine.proofs.InitialisationOrder.{count_call}
 use Rattle.jvms_machine.proofs.MarkLaws.{left_mark, changed_calls}
@@ -29,7 +29,7 @@ module _ (program : List Class) (limits : Limits) (start : Start) (s : State) (t
   KeepsSound d = Keeps program limits start s t d
 
   abbrev failing : Exception → Bool → Thread → Thread
-  failing e last th = unwound last (raised (exception_reference s e) th)
+  failing e last th = unwound last (with_pending (exception_reference s e) th)
 
   below_is : drop 1 thread.frames ≡ below
   below_is = ap (λ (fs : List Frame). drop 1 fs) stands.frames_are
@@ -46,7 +46,7 @@ module _ (program : List Class) (limits : Limits) (start : Start) (s : State) (t
   failed_calls e last is =
       changed_calls (with_exception program s e).threads t thread (failing e last) (stands_with_exception stands e is).given_out ∙ ap calls below_is
 
-  fails_keeps : (e : Exception) (last : Bool) → IsThrown program limits s e → KeepsSound (decision.Makes (action.FailsToUnlock frame.method e last))
+  fails_keeps : (e : Exception) (last : Bool) → IsThrown program limits s e → KeepsSound (decision.Applies (action.FailsToUnlock frame.method e last))
   unfolding applied_to items_of
   fails_keeps e last is = (
     failed_is_sound e last is,

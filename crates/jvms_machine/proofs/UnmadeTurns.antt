@@ -37,8 +37,8 @@ action_is_enabled (action.Raises e) = refl
 action_is_enabled (action.Fails e) = refl
 
 unmade_keeps : (program : List Class) (start : Start) (s : State) (t : ℕ) (d : TurnDecision) → is_enabled (outcome_of d) ≡ false → (state_after program start s t d ≡ s) × (items_after program t d ≡ [])
-unmade_keeps program start s t (decision.Unmade o) disabled = (refl, refl)
-unmade_keeps program start s t (decision.Makes act) disabled = absurd (cc (action_is_enabled act))
+unmade_keeps program start s t (decision.Stays o) disabled = (refl, refl)
+unmade_keeps program start s t (decision.Applies act) disabled = absurd (cc (action_is_enabled act))
 
 pub unmade_turn_keeps : (program : List Class) (limits : Limits) (start : Start) (s : State) (t : ℕ) → is_enabled (turn program limits start s t).outcome ≡ false → ((turn program limits start s t).state ≡ s) × ((turn program limits start s t).items ≡ [])
 unfolding turn

@@ -22,7 +22,7 @@ use Rattle.jvms_machine.specs.Start.{Start}
 use Rattle.jvms_machine.specs.Exceptions.{exception_reference}
 use Rattle.jvms_machine.specs.Unwinding.{handler_of, popped_decision, handler_decision, is_error, failed_with, top_decision, object_decision, unwinding_decision, throwable_decision, throw_top, throw_decision}
 use Rattle.jvms_machine.specs.Monitors.{is_empty}
-use Rattle.jvms_machine.specs.Actions.{with_unlock, given, stack_without_operands, top_operands, after_throw, handling, top_handling, caught, raised, unwound, with_changed, with_initialisation, with_exception, applied_to, items_of}
+use Rattle.jvms_machine.specs.Actions.{with_unlock, without_arguments, stack_without_operands, top_operands, after_throw, handling, top_handling, caught, with_pending, unwound, with_changed, with_initialisation, with_exception, applied_to, items_of}
 use Rattle.jvms_machine.specs.Marks.{calls, calls_in, calls_of}
 use Rattle.jvms_machine.specs.Turn.{HasRoomToHandle}
 use Rattle.jvms_machine.proofs.InitialisationOrder.{order_over, count_call}
@@ -47,17 +47,17 @@ module _ (program : List Class) (limits : Limits) (start : Start) (s : State) (t
 
   module _ (frame : MethodFrame) (below : List Frame) (stands : HasFrames (stack_frame.Call frame ∷ below)) where
     -- The object is removed from the operands, and is pending.
-    throws_keeps : (r : ℕ) → IsThrowable program s.heap r → 1 ≤ length frame.activation.operands → KeepsSound (decision.Makes (action.Throws r))
+    throws_keeps : (r : ℕ) → IsThrowable program s.heap r → 1 ≤ length frame.activation.operands → KeepsSound (decision.Applies (action.Throws r))
     unfolding applied_to items_of
     throws_keeps r is there =
         let frames = frames_are_stack stands in
-        let now = stack_frame.Call (given 1 frame) ∷ below in
+        let now = stack_frame.Call (without_arguments 1 frame) ∷ below in
         let are : (after_throw r thread).frames ≡ now = ap (stack_without_operands 1) stands.frames_are in (
           (λ _. struck_is_sound stands (after_throw r) now are is (refl, refl)
               (given_is_frame program s.heap 1 frame frames.0.0, frames.0.1)
-              (stack_goes_on program frame (given 1 frame).activation below frames.1)
+              (stack_goes_on program frame (without_arguments 1 frame).activation below frames.1)
               frames.2
-              (λ c. count_call c (given 1 frame) below ∙ sym (count_call c frame below))),
+              (λ c. count_call c (without_arguments 1 frame) below ∙ sym (count_call c frame below))),
           (λ _ _. subst (λ o. IfSome o (λ (th : Thread). 1 ≤ length (top_operands th.frames))) (sym stands.given_out) (subst (λ (fs : List Frame). 1 ≤ length (top_operands fs)) (sym stands.frames_are) there)),
           unmarked_by program t (calls_of s t) _ (changed_calls s.threads t thread (after_throw r) stands.given_out ∙ ap calls are ∙ sym (ap calls stands.frames_are) ∙ sym (ap calls_in stands.given_out)),
           (λ _. tt),
@@ -82,7 +82,7 @@ module _ (program : List Class) (limits : Limits) (start : Start) (s : State) (t
     -- ---- A call is on top
 
     -- A handler takes the object.
-    catches_keeps : (r target : ℕ) → thread.pending ≡ Some r → 0 < frame.body.max_stack → KeepsSound (decision.Makes (action.Catches r target))
+    catches_keeps : (r target : ℕ) → thread.pending ≡ Some r → 0 < frame.body.max_stack → KeepsSound (decision.Applies (action.Catches r target))
     unfolding applied_to items_of
     catches_keeps r target pending room =
         let frames = frames_are_stack stands in
@@ -101,7 +101,7 @@ module _ (program : List Class) (limits : Limits) (start : Start) (s : State) (t
         )
 
     -- The call is popped.
-    unwinds_keeps : (last : Bool) (unlock : Option MonitorUse) → IfSome unlock (IsLeft s) → KeepsSound (decision.Makes (action.Unwinds frame.method last unlock))
+    unwinds_keeps : (last : Bool) (unlock : Option MonitorUse) → IfSome unlock (IsLeft s) → KeepsSound (decision.Applies (action.Unwinds frame.method last unlock))
     unfolding applied_to items_of
     unwinds_keeps last unlock is_left =
         let there = stands_with_unlock stands unlock in
@@ -140,7 +140,7 @@ module _ (program : List Class) (limits : Limits) (start : Start) (s : State) (t
     below_is = ap (λ (fs : List Frame). drop 1 fs) stands.frames_are
 
     abbrev failing : Exception → Bool → Thread → Thread
-    failing e last th = unwound last (raised (exception_reference s e) th)
+    failing e last th = unwound last (with_pending (exception_reference s e) th)
 
     failed_is_sound : (e : Exception) (last : Bool) → IsThrown program limits s e → IsProgram program → Sound program limits (with_initialisation (with_changed (with_exception program s e) t (failing e last)) class initialisation.Erroneous)
     failed_is_sound e last is of_program =
@@ -162,7 +162,7 @@ module _ (program : List Class) (limits : Limits) (start : Start) (s : State) (t
         changed_calls (with_exception program s e).threads t thread (failing e last) there.given_out
         ∙ ap calls below_is ∙ sym (ap calls stands.frames_are) ∙ sym (ap calls_in stands.given_out)
 
-    fails_keeps : (e : Exception) (last : Bool) → IsThrown program limits s e → KeepsSound (decision.Makes (action.FailsInitialisation class e last))
+    fails_keeps : (e : Exception) (last : Bool) → IsThrown program limits s e → KeepsSound (decision.Applies (action.FailsInitialisation class e last))
     unfolding applied_to items_of
     fails_keeps e last is = (failed_is_sound e last is, (λ _ _. tt), unmarked_by program t (calls_of s t) _ (failed_calls e last is), (λ _. tt))
 

@@ -20,9 +20,9 @@ use Rattle.jvms_machine.specs.Decisions.{TurnDecision}
 use Rattle.jvms_machine.specs.State.{State, Thread, Frame, MethodFrame, monitor_at, waits_for, is_initialisation_of, IsAtInvoke, IsFrame, IsHold, IsReference, IsStack, IsThread, IsWait, Sound}
 use Rattle.jvms_machine.specs.Start.{Start}
 use Rattle.jvms_machine.specs.Fields.{taking}
-use Rattle.jvms_machine.specs.Actions.{changed_to, given, put_to_wait, stack_without_operands, top_operands, with_changed, with_waiter, applied_to, items_of}
+use Rattle.jvms_machine.specs.Actions.{changed_to, without_arguments, put_to_wait, stack_without_operands, top_operands, with_changed, with_waiter, applied_to, items_of}
 use Rattle.jvms_machine.specs.Marks.{calls_in, calls_of}
-use Rattle.jvms_machine.specs.Waiting.{freed_monitor, object_native_decision, owned, waits_or_notifies, without_notified}
+use Rattle.jvms_machine.specs.Waiting.{freed_monitor, object_native_decision, owner_decision, waits_or_notifies, without_notified}
 use Rattle.jvms_machine.proofs.ListLaws.{all_set, get_set_same}
 use Rattle.jvms_machine.proofs.InitialisationOrder.{count_call, order_with_thread}
 use Rattle.jvms_machine.proofs.MarkLaws.{unmarked_by, changed_calls, given_calls}
@@ -72,7 +72,7 @@ module _ (program : List Class) (limits : Limits) (start : Start) (s : State) (t
     pub there : 1 ≤ length frame.activation.operands
 
   abbrev now : List Frame
-  now = stack_frame.Call (given 1 frame) ∷ below
+  now = stack_frame.Call (without_arguments 1 frame) ∷ below
 
   frames_after : (w : Wait) → (put_to_wait w thread).frames ≡ now
   frames_after w = ap (stack_without_operands 1) stands.frames_are
@@ -88,7 +88,7 @@ module _ (program : List Class) (limits : Limits) (start : Start) (s : State) (t
       let frames = frames_are_stack stands in
       let was = thread_is stands in (
         subst (AllByRecursion (IsFrame program s.heap)) (sym (frames_after w)) (given_is_frame program s.heap 1 frame frames.0.0, frames.0.1),
-        subst (IsStack program) (sym (frames_after w)) (stack_goes_on program frame (given 1 frame).activation below frames.1),
+        subst (IsStack program) (sym (frames_after w)) (stack_goes_on program frame (without_arguments 1 frame).activation below frames.1),
         subst (λ (fs : List Frame). length fs ≤ limits.frames) (sym (frames_after w)) frames.2,
         was.3,
         was.4,
@@ -119,14 +119,14 @@ module _ (program : List Class) (limits : Limits) (start : Start) (s : State) (t
         first_thread = first_thread_set s.threads t thread after stands.given_out refl sound.first_thread;
         own_objects = own_objects_set s.threads t thread after stands.given_out refl sound.own_objects;
         initialised = order_with_thread s.threads s.initialisations t thread after stands.given_out sound.initialised
-            (λ c. ap (count_by (is_initialisation_of c)) (frames_after w) ∙ count_call c (given 1 frame) below ∙ sym (count_call c frame below) ∙ sym (ap (count_by (is_initialisation_of c)) stands.frames_are));
+            (λ c. ap (count_by (is_initialisation_of c)) (frames_after w) ∙ count_call c (without_arguments 1 frame) below ∙ sym (count_call c frame below) ∙ sym (ap (count_by (is_initialisation_of c)) stands.frames_are));
         result = sound.result;
         objects = sound.objects;
         elements = sound.elements;
         thread_count = subst (λ n. n ≤ limits.threads) (sym as_many) sound.thread_count;
       })
 
-  waits_keeps : (w : Wait) → IsBegun w → KeepsSound (decision.Makes (action.Waits w))
+  waits_keeps : (w : Wait) → IsBegun w → KeepsSound (decision.Applies (action.Waits w))
   unfolding applied_to items_of
   waits_keeps w begun = (
     (λ _. waits_is_sound w begun),
@@ -137,12 +137,12 @@ module _ (program : List Class) (limits : Limits) (start : Start) (s : State) (t
 
   -- ---- The native methods
 
-  notifies_keeps : (r : ℕ) (all : Bool) → 1 ≤ length frame.activation.operands → KeepsSound (decision.Makes (action.Reaches (effect.Notifies r all) (taking 1 frame.activation)))
+  notifies_keeps : (r : ℕ) (all : Bool) → 1 ≤ length frame.activation.operands → KeepsSound (decision.Applies (action.Reaches (effect.Notifies r all) (taking 1 frame.activation)))
   notifies_keeps r all there =
       reaches_keeps program limits start s t thread frame below stands (effect.Notifies r all) (taking 1 frame.activation)
       (λ _. record { sound = notified_is_sound stands.sound r all; room = there; value = tt; heard = tt; can_be_made = λ _. tt })
 
-  owned_keeps : IsAtInvoke (stack_frame.Call frame ∷ below) → IsQuiet thread → (m : Method) (r : ℕ) (o : Option Hold) → monitor_at s.monitors r ≡ o → 1 ≤ length frame.activation.operands → KeepsSound (owned limits s t thread o (waits_or_notifies frame.activation m r))
+  owned_keeps : IsAtInvoke (stack_frame.Call frame ∷ below) → IsQuiet thread → (m : Method) (r : ℕ) (o : Option Hold) → monitor_at s.monitors r ≡ o → 1 ≤ length frame.activation.operands → KeepsSound (owner_decision limits s t thread o (waits_or_notifies frame.activation m r))
   owned_keeps at_invoke quiet m r None e there = throws_keeps start stands thrown.IllegalMonitorStateException
   owned_keeps at_invoke quiet m r (Some h) e there =
       cond_both (h.owner == t) _ _ KeepsSound

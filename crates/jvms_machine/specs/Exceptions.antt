@@ -41,21 +41,21 @@ has_room_for count limits s = nat_le (length s.heap + count) limits.objects
 -- Returns the object to throw. Reference 1 is thrown for too many objects, elements, threads or entries of a monitor,
 -- and reference 2 for too many frames. Others are created, or are reference 1 if there is no room for one more object.
 abbrev pub exception_of : Limits → State → Thrown → Exception
-exception_of limits s thrown.OutOfMemoryError = exception.Held 1
-exception_of limits s thrown.StackOverflowError = exception.Held 2
-exception_of limits s class = if has_room_for 1 limits s then exception.New class else exception.Held 1
+exception_of limits s thrown.OutOfMemoryError = exception.Existing 1
+exception_of limits s thrown.StackOverflowError = exception.Existing 2
+exception_of limits s class = if has_room_for 1 limits s then exception.New class else exception.Existing 1
 
 -- Returns the reference of the thrown object.
 abbrev pub exception_reference : State → Exception → ℕ
 exception_reference s (exception.New class) = length s.heap + 1
-exception_reference s (exception.Held r) = r
+exception_reference s (exception.Existing r) = r
 
 -- ---- The turn that throws
 
 -- Returns the decision to throw. With a frame the exception is pending after the turn, and without one the thread ends.
 abbrev pub raising : List Frame → Exception → TurnDecision
-raising [] e = decision.Makes (action.Fails e)
-raising (f ∷ below) e = decision.Makes (action.Raises e)
+raising [] e = decision.Applies (action.Fails e)
+raising (f ∷ below) e = decision.Applies (action.Raises e)
 
 -- Returns the decision that the turn of this thread throws an exception of this class.
 unfoldable pub throws : Limits → State → Thread → Thrown → TurnDecision

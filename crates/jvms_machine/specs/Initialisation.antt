@@ -47,23 +47,23 @@ begin_decision limits s thread class None = never_seen
 begin_decision limits s thread class (Some c) =
     if not (has_room_for (length (new_texts s.heap (constants_of c.fields))) limits s) then throws limits s thread thrown.OutOfMemoryError
     else (if nat_le limits.frames (length thread.frames) then throws limits s thread thrown.StackOverflowError
-    else decision.Makes (action.Begins class))
+    else decision.Applies (action.Begins class))
 
--- Decides a turn that requires the initialisation of a class. It is `go_on` if that is done, or in progress by the
+-- Decides a turn that requires the initialisation of a class. It is `continued` if that is done, or in progress by the
 -- turn's own thread.
 abbrev pub requiring_class_in : List Class → Limits → State → ℕ → Thread → ℕ → Option Initialisation → TurnDecision → TurnDecision
-requiring_class_in program limits s t thread class None go_on = never_seen
-requiring_class_in program limits s t thread class (Some initialisation.NotBegun) go_on =
+requiring_class_in program limits s t thread class None continued = never_seen
+requiring_class_in program limits s t thread class (Some initialisation.NotBegun) continued =
     begin_decision limits s thread class (slice_get program class)
-requiring_class_in program limits s t thread class (Some (initialisation.InProgress u)) go_on =
-    if u == t then go_on else decision.Unmade (outcome.Blocked (blocked.Initialisation class u))
-requiring_class_in program limits s t thread class (Some initialisation.Done) go_on = go_on
-requiring_class_in program limits s t thread class (Some initialisation.Erroneous) go_on =
+requiring_class_in program limits s t thread class (Some (initialisation.InProgress u)) continued =
+    if u == t then continued else decision.Stays (outcome.Blocked (blocked.Initialisation class u))
+requiring_class_in program limits s t thread class (Some initialisation.Done) continued = continued
+requiring_class_in program limits s t thread class (Some initialisation.Erroneous) continued =
     throws limits s thread thrown.NoClassDefFoundError
 
 abbrev pub asking : List Class → Limits → State → ℕ → Thread → ℕ → TurnDecision → TurnDecision
-asking program limits s t thread class go_on =
-    requiring_class_in program limits s t thread class (slice_get s.initialisations class) go_on
+asking program limits s t thread class continued =
+    requiring_class_in program limits s t thread class (slice_get s.initialisations class) continued
 
 -- ---- A turn with an initialisation on top
 
@@ -81,24 +81,24 @@ abbrev pub initializer_call : Limits → State → Thread → MethodNumber → O
 initializer_call limits s thread method None = never_seen
 initializer_call limits s thread method (Some body) =
     if nat_le limits.frames (length thread.frames) then throws limits s thread thrown.StackOverflowError
-    else decision.Makes (action.Initialises method body)
+    else decision.Applies (action.Initialises method body)
 
 -- Decides the initialisation of a class that waits for no superclass. It calls the `<clinit>()V`, or finishes if there
 -- is none.
 abbrev pub initializer_decision : Limits → State → Thread → Class → ℕ → Option ℕ → TurnDecision
-initializer_decision limits s thread c class None = decision.Makes (action.Finishes class)
+initializer_decision limits s thread c class None = decision.Applies (action.Finishes class)
 initializer_decision limits s thread c class (Some n) =
     initializer_call limits s thread (record { class = class; method = n }) (option_and_then (λ m. m.body) (slice_get c.methods n))
 
 -- Decides the initialisation of the superclass, which comes first.
 abbrev pub superclass_decision : List Class → Limits → State → ℕ → Thread → Option ℕ → TurnDecision → TurnDecision
-superclass_decision program limits s t thread None go_on = go_on
-superclass_decision program limits s t thread (Some super) go_on = asking program limits s t thread super go_on
+superclass_decision program limits s t thread None continued = continued
+superclass_decision program limits s t thread (Some super) continued = asking program limits s t thread super continued
 
 -- Decides a turn with an initialisation on top. The superclass comes first, then the call of `<clinit>`. The class is
 -- done if there is no `<clinit>` or it has returned.
 abbrev pub initialisation_decision : List Class → Limits → State → ℕ → Thread → ℕ → Bool → Option Class → TurnDecision
 initialisation_decision program limits s t thread class called None = never_seen
-initialisation_decision program limits s t thread class true (Some c) = decision.Makes (action.Finishes class)
+initialisation_decision program limits s t thread class true (Some c) = decision.Applies (action.Finishes class)
 initialisation_decision program limits s t thread class false (Some c) =
     superclass_decision program limits s t thread (asked_superclass program c) (initializer_decision limits s thread c class (initializer_of c))

@@ -52,7 +52,7 @@ left_monitor r monitors = once_less (monitor_at monitors r)
 abbrev pub entering_held : Limits → State → ℕ → Thread → ℕ → Option Hold → (MonitorUse → TurnDecision) → TurnDecision
 entering_held limits s t thread r None make = make (record { reference = r; outermost = true })
 entering_held limits s t thread r (Some h) make =
-    if not (h.owner == t) then decision.Unmade (outcome.Blocked (blocked.Monitor r h.owner))
+    if not (h.owner == t) then decision.Stays (outcome.Blocked (blocked.Monitor r h.owner))
     else (if h.count == 4294967295 then throws limits s thread thrown.OutOfMemoryError
     else make (record { reference = r; outermost = false }))
 
@@ -114,4 +114,4 @@ is_empty (f ∷ frames) = false
 -- Returns the decision that the call of a method, above these frames, fails to leave its monitor.
 abbrev pub fails_to_unlock : Limits → State → MethodNumber → List Frame → TurnDecision
 fails_to_unlock limits s method below =
-    decision.Makes (action.FailsToUnlock method (exception_of limits s thrown.IllegalMonitorStateException) (is_empty below))
+    decision.Applies (action.FailsToUnlock method (exception_of limits s thrown.IllegalMonitorStateException) (is_empty below))

@@ -27,8 +27,8 @@ start_within_limits limits None = Err no_entry
 start_within_limits limits (Some start) = within limits start
 
 -- Returns the start of a machine of a program with these limits and this entry.
-abbrev pub made : List Class → Limits → Entry → Result Start StartFault
-made program limits e = start_within_limits limits (start_of program e)
+abbrev pub start_of_entry : List Class → Limits → Entry → Result Start StartFault
+start_of_entry program limits e = start_within_limits limits (start_of program e)
 
 -- ---- The opening state
 

@@ -36,7 +36,7 @@ join_decision s a (Some u) = of_thread (slice_get s.threads u)
     of_thread : Option Thread → TurnDecision
     of_thread None = never_seen
     of_thread (Some other) =
-        if other.ended then reaches (effect.Joins u) (taking 1 a) else decision.Unmade (outcome.Blocked (blocked.Join u))
+        if other.ended then reaches (effect.Joins u) (taking 1 a) else decision.Stays (outcome.Blocked (blocked.Join u))
 
 -- Decides a call of `start` or `join` for the Thread object on top.
 abbrev pub thread_native_decision : Limits → State → Thread → Activation → Method → List Value → TurnDecision

@@ -45,12 +45,12 @@ handler_of program class f = find (handles program class f.activation.place) f.b
 abbrev pub popped_decision : Limits → State → ℕ → MethodFrame → List Frame → TurnDecision
 popped_decision limits s t f below =
     unlocking s t f.monitor (fails_to_unlock limits s f.method below)
-    (λ unlock. decision.Makes (action.Unwinds f.method (is_empty below) unlock))
+    (λ unlock. decision.Applies (action.Unwinds f.method (is_empty below) unlock))
 
 -- Decides the turn with this handler. It needs room for the object. Without a handler the call is popped.
 abbrev pub handler_decision : Limits → State → ℕ → MethodFrame → List Frame → ℕ → Option ExceptionHandler → TurnDecision
 handler_decision limits s t f below r None = popped_decision limits s t f below
-handler_decision limits s t f below r (Some h) = if f.body.max_stack == 0 then bad cause.Depth else decision.Makes (action.Catches r h.target)
+handler_decision limits s t f below r (Some h) = if f.body.max_stack == 0 then bad cause.Depth else decision.Applies (action.Catches r h.target)
 
 abbrev pub is_error : List Class → Object → Bool
 is_error program o = fits program (class_of o) (codes "java/lang/Error")
@@ -59,14 +59,14 @@ is_error program o = fits program (class_of o) (codes "java/lang/Error")
 -- no Error is replaced.
 abbrev pub failed_with : List Class → Limits → State → Bool → ℕ → Object → Exception
 failed_with program limits s called r o =
-    if called && not (is_error program o) then exception_of limits s thrown.ExceptionInInitializerError else exception.Held r
+    if called && not (is_error program o) then exception_of limits s thrown.ExceptionInInitializerError else exception.Existing r
 
 abbrev pub top_decision : List Class → Limits → State → ℕ → List Frame → ℕ → Object → TurnDecision
 top_decision program limits s t [] r o = never_seen
 top_decision program limits s t (stack_frame.Call f ∷ below) r o =
     handler_decision limits s t f below r (handler_of program (class_of o) f)
 top_decision program limits s t (stack_frame.Initialisation class called ∷ below) r o =
-    decision.Makes (action.FailsInitialisation class (failed_with program limits s called r o) (is_empty below))
+    decision.Applies (action.FailsInitialisation class (failed_with program limits s called r o) (is_empty below))
 
 abbrev pub object_decision : List Class → Limits → State → ℕ → List Frame → ℕ → Option Object → TurnDecision
 object_decision program limits s t frames r None = never_seen
@@ -86,7 +86,7 @@ CanBeUnwound (stack_frame.Initialisation class called ∷ below) = Unit {0}
 
 abbrev pub throwable_decision : List Class → ℕ → Object → TurnDecision
 throwable_decision program r o =
-    if fits program (class_of o) (codes "java/lang/Throwable") then decision.Makes (action.Throws r) else bad cause.Kind
+    if fits program (class_of o) (codes "java/lang/Throwable") then decision.Applies (action.Throws r) else bad cause.Kind
 
 abbrev pub throw_top : List Class → Limits → State → Thread → List Value → TurnDecision
 throw_top program limits s thread [] = bad cause.Depth

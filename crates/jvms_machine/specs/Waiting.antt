@@ -47,29 +47,29 @@ without_notified r all waiters = if all then filter (λ w. not (w.0 == r)) waite
 -- ---- The turns
 
 -- Decides a wait or a notification. Only the owner of the monitor, with its entry count, may wait and notify.
-abbrev pub owned : Limits → State → ℕ → Thread → Option Hold → (ℕ → TurnDecision) → TurnDecision
-owned limits s t thread None make = throws limits s thread thrown.IllegalMonitorStateException
-owned limits s t thread (Some h) make =
+abbrev pub owner_decision : Limits → State → ℕ → Thread → Option Hold → (ℕ → TurnDecision) → TurnDecision
+owner_decision limits s t thread None make = throws limits s thread thrown.IllegalMonitorStateException
+owner_decision limits s t thread (Some h) make =
     if h.owner == t then make h.count else throws limits s thread thrown.IllegalMonitorStateException
 
 abbrev pub waits_or_notifies : Activation → Method → ℕ → ℕ → TurnDecision
 waits_or_notifies a m r count =
-    if same_text m.name (codes "wait") then decision.Makes (action.Waits (record { reference = r; count = count }))
+    if same_text m.name (codes "wait") then decision.Applies (action.Waits (record { reference = r; count = count }))
     else reaches (effect.Notifies r (same_text m.name (codes "notifyAll"))) (taking 1 a)
 
 -- Decides a call of `wait`, `notify` or `notifyAll` for the object on top.
 abbrev pub object_native_decision : Limits → State → ℕ → Thread → Activation → Method → List Value → TurnDecision
 object_native_decision limits s t thread a m (value.Reference r ∷ below) =
-    owned limits s t thread (monitor_at s.monitors r) (waits_or_notifies a m r)
+    owner_decision limits s t thread (monitor_at s.monitors r) (waits_or_notifies a m r)
 object_native_decision limits s t thread a m _ = never_seen
 
 -- Decides that a notified thread retakes the monitor, once it is free.
 abbrev pub retaking : Wait → Option Hold → TurnDecision
-retaking w (Some h) = decision.Unmade (outcome.Blocked (blocked.Monitor w.reference h.owner))
-retaking w None = decision.Makes (action.Retakes w)
+retaking w (Some h) = decision.Stays (outcome.Blocked (blocked.Monitor w.reference h.owner))
+retaking w None = decision.Applies (action.Retakes w)
 
 -- Decides the turn of a waiting thread. The turn is blocked until the thread is notified and the monitor is free.
 unfoldable pub waiting_decision : State → ℕ → Wait → TurnDecision
 waiting_decision s t w =
-    if is_waiter t s.waiters then decision.Unmade (outcome.Blocked (blocked.Wait w.reference))
+    if is_waiter t s.waiters then decision.Stays (outcome.Blocked (blocked.Wait w.reference))
     else retaking w (monitor_at s.monitors w.reference)

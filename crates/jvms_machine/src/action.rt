@@ -42,7 +42,7 @@ pub enum Exception {
     /// Creates an object of this class, with a null message.
     New(Thrown),
     /// Throws the existing object of this reference.
-    Held { reference: u32 },
+    Existing { reference: u32 },
 }
 
 /// A new object on the heap (JVMS 2.4, 2.7). `T` is the type of texts.
@@ -126,7 +126,7 @@ pub enum Effect<T> {
         index: u32,
         value: Value,
     },
-    Makes(NewObject<T>),
+    Creates(NewObject<T>),
     Prints {
         what: Printed,
         ends_line: bool,
@@ -252,8 +252,8 @@ impl<C: Copy, T: Copy> Clone for Action<C, T> {
 #[derive(Copy)]
 pub enum Decision<C, T> {
     /// The turn isn't taken, and nothing changes.
-    Unmade(Outcome),
-    Makes(Action<C, T>),
+    Stays(Outcome),
+    Applies(Action<C, T>),
 }
 
 impl<C: Copy, T: Copy> Clone for Decision<C, T> {

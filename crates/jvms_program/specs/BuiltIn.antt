@@ -45,15 +45,15 @@ method name descriptor flags body =
     record { name = name; descriptor = descriptor; method_type = method_type descriptor; flags = flags; throws = []; body = body }
 
 -- Returns a method with code, with a stack of 2 and 2 locals.
-abbrev pub coded : List ℕ → List ℕ → List Instruction → Method
-coded name descriptor code =
+abbrev pub method_with_code : List ℕ → List ℕ → List Instruction → Method
+method_with_code name descriptor code =
     method name descriptor no_flags (Some (record { max_stack = 2; max_locals = 2; instructions = code; handlers = [] }))
 
-abbrev pub native : List ℕ → List ℕ → Method
-native name descriptor = method name descriptor (record no_flags { is_native = true }) None
+abbrev pub native_method : List ℕ → List ℕ → Method
+native_method name descriptor = method name descriptor (record no_flags { is_native = true }) None
 
-abbrev pub abstracted : List ℕ → List ℕ → Method
-abstracted name descriptor = method name descriptor (record no_flags { is_abstract = true }) None
+abbrev pub abstract_method : List ℕ → List ℕ → Method
+abstract_method name descriptor = method name descriptor (record no_flags { is_abstract = true }) None
 
 abbrev pub field : Bool → List ℕ → List ℕ → Field
 field static name descriptor =
@@ -81,15 +81,15 @@ object_class =
       interfaces = [];
       fields = [];
       methods =
-          coded (codes "<init>") (codes "()V") (return_void ∷ [])
-          ∷ native (codes "wait") (codes "()V")
-          ∷ native (codes "notify") (codes "()V")
-          ∷ native (codes "notifyAll") (codes "()V")
+          method_with_code (codes "<init>") (codes "()V") (return_void ∷ [])
+          ∷ native_method (codes "wait") (codes "()V")
+          ∷ native_method (codes "notify") (codes "()V")
+          ∷ native_method (codes "notifyAll") (codes "()V")
           ∷ [];
     }
 
 abbrev pub runnable_class : Class
-runnable_class = interface_with (abstracted (codes "run") (codes "()V") ∷ []) (codes "java/lang/Runnable")
+runnable_class = interface_with (abstract_method (codes "run") (codes "()V") ∷ []) (codes "java/lang/Runnable")
 
 abbrev pub target_field : FieldUse → Instruction
 target_field how = field_insn how (codes "java/lang/Thread") (codes "target") (codes "Ljava/lang/Runnable;")
@@ -103,12 +103,12 @@ call_run =
 abbrev pub thread_class : Class
 thread_class =
     class_with object (codes "java/lang/Runnable" ∷ []) (field false (codes "target") (codes "Ljava/lang/Runnable;") ∷ [])
-    (coded (codes "<init>") (codes "()V") (return_void ∷ [])
-    ∷ coded (codes "<init>") (codes "(Ljava/lang/Runnable;)V") (load 0 ∷ load 1 ∷ target_field field_use.Put ∷ return_void ∷ [])
-    ∷ coded (codes "run") (codes "()V")
+    (method_with_code (codes "<init>") (codes "()V") (return_void ∷ [])
+    ∷ method_with_code (codes "<init>") (codes "(Ljava/lang/Runnable;)V") (load 0 ∷ load 1 ∷ target_field field_use.Put ∷ return_void ∷ [])
+    ∷ method_with_code (codes "run") (codes "()V")
     (load 0 ∷ target_field field_use.Get ∷ instruction.Branch branch.IfNull 6 ∷ load 0 ∷ target_field field_use.Get ∷ call_run ∷ return_void ∷ [])
-    ∷ native (codes "start") (codes "()V")
-    ∷ native (codes "join") (codes "()V")
+    ∷ native_method (codes "start") (codes "()V")
+    ∷ native_method (codes "join") (codes "()V")
     ∷ [])
     (codes "java/lang/Thread")
 
@@ -118,24 +118,24 @@ message_field how = field_insn how (codes "java/lang/Throwable") (codes "message
 -- Returns the constructors of Throwable and of each class below it.
 abbrev pub throwable_constructors : List Method
 throwable_constructors =
-    coded (codes "<init>") (codes "()V") (return_void ∷ [])
-    ∷ coded (codes "<init>") (codes "(Ljava/lang/String;)V") (load 0 ∷ load 1 ∷ message_field field_use.Put ∷ return_void ∷ [])
+    method_with_code (codes "<init>") (codes "()V") (return_void ∷ [])
+    ∷ method_with_code (codes "<init>") (codes "(Ljava/lang/String;)V") (load 0 ∷ load 1 ∷ message_field field_use.Put ∷ return_void ∷ [])
     ∷ []
 
 abbrev pub throwable_class : Class
 throwable_class =
     class_with object (codes "java/io/Serializable" ∷ []) (field false (codes "message") (codes "Ljava/lang/String;") ∷ [])
-    (throwable_constructors ++ coded (codes "getMessage") (codes "()Ljava/lang/String;") (load 0 ∷ message_field field_use.Get ∷ return_reference ∷ []) ∷ [])
+    (throwable_constructors ++ method_with_code (codes "getMessage") (codes "()Ljava/lang/String;") (load 0 ∷ message_field field_use.Get ∷ return_reference ∷ []) ∷ [])
     (codes "java/lang/Throwable")
 
 abbrev pub print_stream_class : Class
 print_stream_class =
     class_with object [] []
-    (native (codes "print") (codes "(I)V") ∷ native (codes "print") (codes "(J)V")
-    ∷ native (codes "print") (codes "(Ljava/lang/String;)V")
-    ∷ native (codes "println") (codes "(I)V") ∷ native (codes "println") (codes "(J)V")
-    ∷ native (codes "println") (codes "(Ljava/lang/String;)V")
-    ∷ native (codes "println") (codes "()V") ∷ [])
+    (native_method (codes "print") (codes "(I)V") ∷ native_method (codes "print") (codes "(J)V")
+    ∷ native_method (codes "print") (codes "(Ljava/lang/String;)V")
+    ∷ native_method (codes "println") (codes "(I)V") ∷ native_method (codes "println") (codes "(J)V")
+    ∷ native_method (codes "println") (codes "(Ljava/lang/String;)V")
+    ∷ native_method (codes "println") (codes "()V") ∷ [])
     (codes "java/io/PrintStream")
 
 -- Returns a class below Throwable, with its superclass.

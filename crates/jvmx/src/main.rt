@@ -72,8 +72,8 @@ fn performed<R: AllocGlobal + Clock + Eprint + Threads + Wait + Sync>(
 /// Reports that the words can't be read, and returns the exit status. It is 2 if a word isn't UTF-8, and 3 if memory
 /// ran out or standard error failed.
 fn refused(rt: &HostRuntime, fault: WordsFault) -> u8 {
-    let told = eprintln!(rt; "jvmx: {fault}");
-    if told.is_ok() && fault == WordsFault::Words {
+    let printed = eprintln!(rt; "jvmx: {fault}");
+    if printed.is_ok() && fault == WordsFault::Words {
         2
     } else {
         3

@@ -16,14 +16,14 @@ use Rattle.jvms_file.specs.Names.{same_text}
 use Rattle.jvms_file.specs.Results.{◌>>=◌}
 use Rattle.jvms_program.specs.BuiltIn.{built_in_classes, is_built_in}
 use Rattle.linker.specs.declared.fault.LinkFault.{LinkFault}
-use Rattle.linker.specs.Linking.{names_of, repeats, repeated_name, built_in_name, refused, refusal, HaveDistinctNames}
+use Rattle.linker.specs.Linking.{names_of, repeats, repeated_name, built_in_name, refusal_at, refusal, HaveDistinctNames}
 
 -- ---- The consequences of no refusal
 
 abbrev NoneOf : Option ℕ → Option ℕ → Type 0
 NoneOf a b = (a ≡ None) × (b ≡ None)
 
-none_refused : (f g : ℕ → LinkFault) (a b : Option ℕ) (others : Result (Unit {0}) LinkFault) → (refused f a >>= λ x. refused g b >>= λ y. others) ≡ Ok tt → NoneOf a b
+none_refused : (f g : ℕ → LinkFault) (a b : Option ℕ) (others : Result (Unit {0}) LinkFault) → (refusal_at f a >>= λ x. refusal_at g b >>= λ y. others) ≡ Ok tt → NoneOf a b
 none_refused f g None None others passes = (refl, refl)
 none_refused f g None (Some n) others passes = absurd cc
 none_refused f g (Some n) b others passes = absurd cc

@@ -80,22 +80,22 @@ circular program classes = position (is_circular program) classes
 -- ---- Linking
 
 -- Returns the fault of the class at a place, if a place was found.
-abbrev pub refused : (ℕ → LinkFault) → Option ℕ → Result (Unit {0}) LinkFault
-refused fault None = Ok tt
-refused fault (Some place) = Err (fault place)
+abbrev pub refusal_at : (ℕ → LinkFault) → Option ℕ → Result (Unit {0}) LinkFault
+refusal_at fault None = Ok tt
+refusal_at fault (Some place) = Err (fault place)
 
 -- Returns the first test that one of these classes fails.
 abbrev pub refusal : List Class → Result (Unit {0}) LinkFault
 refusal classes = do
-  _ ← refused (λ n. fault.BuiltInName n) (built_in_name classes)
-  _ ← refused (λ n. fault.RepeatedClass n) (repeated_name (names_of classes))
-  _ ← refused (λ n. fault.MissingSuper n) (missing_super (built_in_classes ++ classes) classes)
-  _ ← refused (λ n. fault.SuperKind n) (wrong_super (built_in_classes ++ classes) classes)
-  refused (λ n. fault.Circular n) (circular (built_in_classes ++ classes) classes)
+  _ ← refusal_at (λ n. fault.BuiltInName n) (built_in_name classes)
+  _ ← refusal_at (λ n. fault.RepeatedClass n) (repeated_name (names_of classes))
+  _ ← refusal_at (λ n. fault.MissingSuper n) (missing_super (built_in_classes ++ classes) classes)
+  _ ← refusal_at (λ n. fault.SuperKind n) (wrong_super (built_in_classes ++ classes) classes)
+  refusal_at (λ n. fault.Circular n) (circular (built_in_classes ++ classes) classes)
 
 -- Returns the program of class files, or the first test that one of their classes fails.
-unfoldable pub linked : List ClassFile → Result (List Class) LinkFault
-linked files = do
+unfoldable pub link_result : List ClassFile → Result (List Class) LinkFault
+link_result files = do
   _ ← refusal (map meaning files)
   Ok (program_of files)
 

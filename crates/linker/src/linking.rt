@@ -4,7 +4,7 @@ ghost use Rattle.std.specs.Prelude.{◌≡◌, ◌++◌, ◌-◌, IfOk, MatchRes
 ghost use Rattle.jvms_program.specs.BuiltIn.{built_in_classes};
 ghost use Rattle.jvms_program.specs.Meaning.{meaning};
 ghost use Rattle.linker.specs.declared.fault.LinkFault.TheVariants as fault;
-ghost use Rattle.linker.specs.Linking.{Answers, HaveDistinctNames, linked, refusal};
+ghost use Rattle.linker.specs.Linking.{Answers, HaveDistinctNames, link_result, refusal};
 
 use crate::circles::circular;
 use crate::class::meaning;
@@ -71,10 +71,10 @@ fn program_of(alloc: Global, list: ClassList) -> Result<Program, LinkFault>
 
 /// Links class files with the built-in classes (JVMS 5.3), or returns the first test that one of their classes fails. A
 /// lack of memory may be returned instead.
-#[tactic(auto, unfolding(crate::specs::Linking::linked, jvms_program::specs::Program::program_of), using(jvms_program::proofs::ProgramLaws::files_are_program))]
+#[tactic(auto, unfolding(crate::specs::Linking::link_result, jvms_program::specs::Program::program_of), using(jvms_program::proofs::ProgramLaws::files_are_program))]
 pub fn link(alloc: Global, files: Vec<ClassFile>) -> Result<Program, LinkFault>
     // The built-in classes and those of the files in order, or the first test that fails.
-    ensures exact { Answers result (linked files.items) }
+    ensures exact { Answers result (link_result files.items) }
     // No two classes of the program have one name.
     ensures distinct { IfOk result (λ p. HaveDistinctNames p) }
 {

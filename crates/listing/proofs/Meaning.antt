@@ -6,7 +6,7 @@ use Rattle.jasmin.specs.declared.source.Source.{Source}
 use Rattle.jasmin.specs.Sources.{units_of}
 use Rattle.class_file.specs.Spelled.{HasSpelling}
 use Rattle.listing_spec.specs.TreeOf.{tree_of}
-use Rattle.listing_spec.specs.Printed.{printed}
+use Rattle.listing_spec.specs.Printed.{lines_of_source}
 use Rattle.listing_spec.specs.Printable.{is_printable}
 use Rattle.listing_spec.specs.Listable.{IsListable}
 use Rattle.listing.specs.Written.{MeansClass}
@@ -20,6 +20,6 @@ pub is_listable : (c : ClassFile) (tree : Source) → HasSpelling c → tree_of 
 is_listable c tree spelled is = tree_listable spelled.0 c tree spelled.1 is
 
 -- A text with its lines means the class.
-pub means_class : (text : List ℕ) (c : ClassFile) (tree : Source) → HasSpelling c → tree_of c ≡ Ok tree → is_printable tree ≡ true → map units_of (lines text) ≡ printed tree → MeansClass text c
+pub means_class : (text : List ℕ) (c : ClassFile) (tree : Source) → HasSpelling c → tree_of c ≡ Ok tree → is_printable tree ≡ true → map units_of (lines text) ≡ lines_of_source tree → MeansClass text c
 means_class text c tree spelled is printable same =
     (tree, listed_is_read text tree same printable (tree_formed spelled.0 c tree spelled.1 is) (is_listable c tree spelled is), tree_means spelled.0 c tree spelled.1 is)

@@ -3,7 +3,7 @@
 ghost use Rattle.std.specs.Prelude.{◌≡◌, map, Ok, Err, IfOk, IfErr, string_bytes};
 ghost use Rattle.std.specs.Str.Lines.{lines};
 ghost use Rattle.jasmin.specs.Sources.{units_of};
-ghost use Rattle.listing_spec.specs.Listed.{listed};
+ghost use Rattle.listing_spec.specs.Listed.{listing_of};
 ghost use Rattle.listing_spec.specs.Faults.{Lists};
 ghost use Rattle.source_text.specs.Lines.{text_of_lines};
 ghost use Rattle.listing.specs.Written.{MeansClass};
@@ -21,12 +21,12 @@ use std::alloc::Global;
 ///
 /// Returns L01 if a name can't be spelled in a source or there is no superclass. Returns L02 if an instruction or a
 /// field uses a float or a double, and L03 if memory ran out.
-#[tactic(auto, unfolding(listing_spec::specs::Listed::listed), using(crate::proofs::Meaning::means_class))]
+#[tactic(auto, unfolding(listing_spec::specs::Listed::listing_of), using(crate::proofs::Meaning::means_class))]
 pub fn list(alloc: Global, class: &ClassFile) -> Result<String, ListFault>
     // The result has the lines of the definition, or its fault, unless memory runs out.
     ensures exact { IfOk result
-        (λ text. listed class.now ≡ Ok (map units_of (lines (string_bytes text)))) }
-    ensures fault { IfErr result (λ fault. Lists (Err fault) (listed class.now)) }
+        (λ text. listing_of class.now ≡ Ok (map units_of (lines (string_bytes text)))) }
+    ensures fault { IfErr result (λ fault. Lists (Err fault) (listing_of class.now)) }
     // LF follows each line, the last one included, and nothing else separates them.
     ensures ended { IfOk result (λ text. units_of (string_bytes text)
         ≡ text_of_lines (map units_of (lines (string_bytes text)))) }

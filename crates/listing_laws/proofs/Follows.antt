@@ -8,7 +8,7 @@ use Rattle.jasmin.specs.LineKinds.{kind_of}
 use Rattle.jasmin.specs.Statements.{statement_of}
 use Rattle.jasmin.specs.Sources.{units_of}
 use Rattle.jasmin.specs.Reading.{with_line, with_lines, with_lexemes, with_statement, is_in_place, is_repeated, sort_of, switch_of}
-use Rattle.listing_spec.specs.Printed.{joined}
+use Rattle.listing_spec.specs.Printed.{join_words}
 use Rattle.listing_laws.proofs.Words.{ArePieces, words_are}
 
 -- Lines of units lead from one state to another.
@@ -45,5 +45,5 @@ lines_follow (l ∷ ls) (u ∷ us) n r s same (m, e, f) =
 pub lexemes_add : (r : Reading) (ls : List Lexeme) (k : LineKind) (s : Statement) → kind_of (switch_of r) ls ≡ Ok k → is_in_place r k ≡ true → statement_of (sort_of r.access) (switch_of r) k ls ≡ Ok s → is_repeated r s ≡ false → with_lexemes r ls ≡ Ok (with_statement r s)
 lexemes_add r ls k s a b c d = rw (a, b, c, d) refl
 
-pub words_add : (r : Reading) (ws : List (List ℕ)) (ls : List Lexeme) (k : LineKind) (s : Statement) → ArePieces ws ls → kind_of (switch_of r) ls ≡ Ok k → is_in_place r k ≡ true → statement_of (sort_of r.access) (switch_of r) k ls ≡ Ok s → is_repeated r s ≡ false → with_line r (joined ws) ≡ Ok (with_statement r s)
+pub words_add : (r : Reading) (ws : List (List ℕ)) (ls : List Lexeme) (k : LineKind) (s : Statement) → ArePieces ws ls → kind_of (switch_of r) ls ≡ Ok k → is_in_place r k ≡ true → statement_of (sort_of r.access) (switch_of r) k ls ≡ Ok s → is_repeated r s ≡ false → with_line r (join_words ws) ≡ Ok (with_statement r s)
 words_add r ws ls k s are a b c d = words_are r ws ls are ∙ lexemes_add r ls k s a b c d

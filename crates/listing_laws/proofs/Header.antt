@@ -20,7 +20,7 @@ use Rattle.jasmin.specs.LineKinds.{kind_of}
 use Rattle.jasmin.specs.Operands.{class_words, flags_in, access_words}
 use Rattle.jasmin.specs.Statements.{statement_of, bytecode_line, class_line, super_line, implements_line}
 use Rattle.jasmin.specs.Reading.{empty_reading, with_line, with_statement, is_in_place, is_in_order, is_repeated}
-use Rattle.listing_spec.specs.Printed.{joined, access_names, written_class_words, written_interface_words}
+use Rattle.listing_spec.specs.Printed.{join_words, access_names, written_class_words, written_interface_words}
 use Rattle.listing_spec.specs.Printable.{is_word}
 use Rattle.listing_spec.specs.TreeOf.{class_flags}
 use Rattle.listing_laws.proofs.Words.{fixed_piece, plain_piece, pieces_push}
@@ -49,7 +49,7 @@ reading p s interfaces fields methods method =
 -- ---- The version
 
 pub version_line : with_line empty_reading (codes ".bytecode 49.0") ≡ Ok versioned
-unfolding joined kind_of is_in_place statement_of bytecode_line is_repeated with_statement
+unfolding join_words kind_of is_in_place statement_of bytecode_line is_repeated with_statement
 version_line =
     words_add empty_reading (codes ".bytecode" ∷ codes "49.0" ∷ []) (lexeme.Word (codes ".bytecode") ∷ lexeme.Word (codes "49.0") ∷ []) (kind.Directive directive.Bytecode) statement.Bytecode
     (fixed_piece (codes ".bytecode") refl, (fixed_piece (codes "49.0") refl, tt)) refl refl refl refl
@@ -64,7 +64,7 @@ class_statement added ws access name flags apart is =
     rw (but_last_is (as_words ws) (lexeme.Word name), last_is (as_words ws) (lexeme.Word name), apart, is, flags) refl
 
 pub plain_class_line : (s : Source) → is_interface s.access ≡ false → s.access ≡ class_flags s.access → is_class_name s.name ≡ true → is_word s.name ≡ true
-    → with_line versioned (joined (codes ".class" ∷ access_names written_class_words s.access ++ s.name ∷ [])) ≡ Ok (named s)
+    → with_line versioned (join_words (codes ".class" ∷ access_names written_class_words s.access ++ s.name ∷ [])) ≡ Ok (named s)
 unfolding kind_of is_in_place statement_of is_repeated with_statement
 plain_class_line s none flags is word =
     let ws = access_names written_class_words s.access in
@@ -74,7 +74,7 @@ plain_class_line s none flags is word =
     refl refl (class_statement 32 ws s.access s.name written.flags written.apart is) refl
 
 pub interface_line : (s : Source) → is_interface s.access ≡ true → s.access ≡ class_flags s.access → is_class_name s.name ≡ true → is_word s.name ≡ true
-    → with_line versioned (joined (codes ".interface" ∷ access_names written_interface_words s.access ++ s.name ∷ [])) ≡ Ok (named s)
+    → with_line versioned (join_words (codes ".interface" ∷ access_names written_interface_words s.access ++ s.name ∷ [])) ≡ Ok (named s)
 unfolding kind_of is_in_place statement_of is_repeated with_statement
 interface_line s some flags is word =
     let ws = access_names written_interface_words s.access in
@@ -93,7 +93,7 @@ implements_statement : (name : List ℕ) → is_class_name name ≡ true → imp
 unfolding implements_line
 implements_statement name is = rw is refl
 
-pub superclass_line : (s : Source) → is_class_name s.superclass ≡ true → is_word s.superclass ≡ true → with_line (named s) (joined (codes ".super" ∷ s.superclass ∷ [])) ≡ Ok (reading part.Super s [] [] [] None)
+pub superclass_line : (s : Source) → is_class_name s.superclass ≡ true → is_word s.superclass ≡ true → with_line (named s) (join_words (codes ".super" ∷ s.superclass ∷ [])) ≡ Ok (reading part.Super s [] [] [] None)
 unfolding kind_of is_in_place statement_of is_repeated with_statement
 superclass_line s is word =
     words_add (named s) (codes ".super" ∷ s.superclass ∷ []) (lexeme.Word (codes ".super") ∷ lexeme.Word s.superclass ∷ []) (kind.Directive directive.Super) (statement.Superclass s.superclass)
@@ -105,7 +105,7 @@ abbrev pub IsEarly : Part → Type 0
 IsEarly p = (is_in_order p part.Implements ≡ true) × (is_in_order p part.Members ≡ true)
 
 interface_read : (p : Part) → IsEarly p → (s : Source) (seen : List (List ℕ)) (name : List ℕ) → is_class_name name ≡ true → is_word name ≡ true
-    → with_line (reading p s seen [] [] None) (joined (codes ".implements" ∷ name ∷ [])) ≡ Ok (reading part.Implements s (seen ++ name ∷ []) [] [] None)
+    → with_line (reading p s seen [] [] None) (join_words (codes ".implements" ∷ name ∷ [])) ≡ Ok (reading part.Implements s (seen ++ name ∷ []) [] [] None)
 unfolding kind_of is_in_place statement_of is_repeated with_statement
 interface_read p early s seen name is word =
     words_add (reading p s seen [] [] None) (codes ".implements" ∷ name ∷ []) (lexeme.Word (codes ".implements") ∷ lexeme.Word name ∷ []) (kind.Directive directive.Implements) (statement.Implements name)
@@ -116,7 +116,7 @@ interface_read p early s seen name is word =
 pub record AreRead (s : Source) (seen rest : List (List ℕ)) (from : Part) : Type 0 where
   pub to : Part
   pub early : IsEarly to
-  pub follows : Follows (reading from s seen [] [] None) (map (λ name. joined (codes ".implements" ∷ name ∷ [])) rest) (reading to s (seen ++ rest) [] [] None)
+  pub follows : Follows (reading from s seen [] [] None) (map (λ name. join_words (codes ".implements" ∷ name ∷ [])) rest) (reading to s (seen ++ rest) [] [] None)
 
 pub interfaces_read : (rest : List (List ℕ)) (s : Source) (seen : List (List ℕ)) (from : Part) → IsEarly from → AllByRecursion (λ name. is_class_name name ≡ true) rest → list_all is_word rest ≡ true → AreRead s seen rest from
 interfaces_read [] s seen from early are words = record { to = from; early = early; follows = ap (λ (is : List (List ℕ)). reading from s is [] [] None) (sym (append-nil seen)) }

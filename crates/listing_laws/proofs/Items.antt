@@ -38,7 +38,7 @@ use Rattle.jasmin.specs.Statements.{statement_of, instruction_with, instruction_
 use Rattle.jasmin.specs.Denote.{has_code}
 use Rattle.jasmin.specs.Reading.{with_line, with_statement, is_in_place, is_repeated, sort_of, switch_of, last_value}
 use Rattle.source_form_laws.specs.Formed.{IsSigned, IsFormedOperation, IsFormedItem, IsFormedLookup}
-use Rattle.listing_spec.specs.Printed.{joined, opcode_of, mnemonic, operand_words, switch_line, lines_after, item_lines}
+use Rattle.listing_spec.specs.Printed.{join_words, opcode_of, mnemonic, operand_words, switch_line, lines_after, item_lines}
 use Rattle.listing_spec.specs.Printed.{default_line as printed_default, match_line as printed_match}
 use Rattle.listing_spec.specs.Printable.{is_printable_item}
 use Rattle.listing_spec.specs.Listable.{IsPlaceLabel, IsListableOperation, IsListableItem}
@@ -56,8 +56,8 @@ coding s ms m code switch =
     reading part.Members s s.interfaces s.fields ms (Some (record { access = m.access; name = m.name; descriptor = m.descriptor; throws = m.throws; max_stack = Some m.max_stack; max_locals = Some m.max_locals; catches = m.catches; code = code; switch = switch }))
 
 -- Words after white space add their statement.
-pub spaced_add : (r : Reading) (space : List ℕ) (ws : List (List ℕ)) (ls : List Lexeme) (k : LineKind) (s : Statement) → list_all is_space space ≡ true → ArePieces ws ls → kind_of (switch_of r) ls ≡ Ok k → is_in_place r k ≡ true → statement_of (sort_of r.access) (switch_of r) k ls ≡ Ok s → is_repeated r s ≡ false → with_line r (space ++ joined ws) ≡ Ok (with_statement r s)
-spaced_add r space ws ls k s spaces are a b c d = line_is r (space ++ joined ws) ls (joined_lexes ws ls are true 0 space spaces) ∙ lexemes_add r ls k s a b c d
+pub spaced_add : (r : Reading) (space : List ℕ) (ws : List (List ℕ)) (ls : List Lexeme) (k : LineKind) (s : Statement) → list_all is_space space ≡ true → ArePieces ws ls → kind_of (switch_of r) ls ≡ Ok k → is_in_place r k ≡ true → statement_of (sort_of r.access) (switch_of r) k ls ≡ Ok s → is_repeated r s ≡ false → with_line r (space ++ join_words ws) ≡ Ok (with_statement r s)
+spaced_add r space ws ls k s spaces are a b c d = line_is r (space ++ join_words ws) ls (joined_lexes ws ls are true 0 space spaces) ∙ lexemes_add r ls k s a b c d
 
 -- ---- Labels
 
@@ -83,7 +83,7 @@ unfolding instruction_line
 instruction_reads code form ls i is reads = rw is reads
 
 instruction_adds : (s : Source) (ms : List MethodLines) (m : MethodLines) (code : List CodeItem) (o : Operation) → has_code m.name m.access ≡ true → Form o
-    → with_line (coding s ms m code None) (codes "  " ++ joined (mnemonic (opcode_of o) ∷ operand_words o)) ≡ Ok (with_statement (coding s ms m code None) (statement.Instruction (instruction_of o)))
+    → with_line (coding s ms m code None) (codes "  " ++ join_words (mnemonic (opcode_of o) ∷ operand_words o)) ≡ Ok (with_statement (coding s ms m code None) (statement.Instruction (instruction_of o)))
 unfolding is_in_place statement_of is_repeated
 instruction_adds s ms m code o has f =
     let name = mnemonic_is (opcode_of o) f.form f.is.is f.is.named in
@@ -99,7 +99,7 @@ whole_follows : (s : Source) (ms : List MethodLines) (m : MethodLines) (code : L
     → Follows (coding s ms m code None) (item_lines (item.Operation o)) (coding s ms m (code ++ item.Operation o ∷ []) None)
 unfolding item_lines with_statement
 whole_follows s ms m code o has f whole nothing =
-    let line = codes "  " ++ joined (mnemonic (opcode_of o) ∷ operand_words o) in
+    let line = codes "  " ++ join_words (mnemonic (opcode_of o) ∷ operand_words o) in
     let added = instruction_adds s ms m code o has f ∙ ap (λ (i : Instruction). Ok (with_statement (coding s ms m code None) (statement.Instruction i))) whole in
     subst (λ (ls : List (List ℕ)). Follows (coding s ms m code None) (line ∷ ls) (coding s ms m (code ++ item.Operation o ∷ []) None)) (sym nothing)
     (one_line (coding s ms m code None) (coding s ms m (code ++ item.Operation o ∷ []) None) line added)

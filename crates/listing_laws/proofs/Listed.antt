@@ -13,7 +13,7 @@ use Rattle.jasmin.specs.declared.reading.Reading.{Reading}
 use Rattle.jasmin.specs.Sources.{units_of}
 use Rattle.jasmin.specs.Reading.{empty_reading, with_line, source_of}
 use Rattle.source_form_laws.specs.Formed.{IsFormed}
-use Rattle.listing_spec.specs.Printed.{joined, access_names, written_class_words, written_interface_words, field_line, method_text, printed}
+use Rattle.listing_spec.specs.Printed.{join_words, access_names, written_class_words, written_interface_words, field_line, method_text, lines_of_source}
 use Rattle.listing_spec.specs.Printable.{is_word, is_printable_field, is_printable_method, is_printable}
 use Rattle.listing_spec.specs.Listable.{IsListable}
 use Rattle.listing_spec.specs.TreeOf.{class_flags}
@@ -23,7 +23,7 @@ use Rattle.listing_laws.proofs.Fields.{fields_read}
 use Rattle.listing_laws.proofs.Methods.{methods_read}
 
 class_by : (b : Bool) (s : Source) → is_interface s.access ≡ b → s.access ≡ class_flags s.access → is_class_name s.name ≡ true → is_word s.name ≡ true
-    → with_line versioned (cond b (joined (codes ".interface" ∷ access_names written_interface_words s.access ++ s.name ∷ [])) (joined (codes ".class" ∷ access_names written_class_words s.access ++ s.name ∷ []))) ≡ Ok (named s)
+    → with_line versioned (cond b (join_words (codes ".interface" ∷ access_names written_interface_words s.access ++ s.name ∷ [])) (join_words (codes ".class" ∷ access_names written_class_words s.access ++ s.name ∷ []))) ≡ Ok (named s)
 class_by true s is flags name word = interface_line s is flags name word
 class_by false s is flags name word = plain_class_line s is flags name word
 
@@ -50,10 +50,10 @@ all_read p s = reading p s s.interfaces s.fields s.methods None
 
 record IsAllRead (s : Source) : Type 0 where
   pub to : Part
-  pub follows : Follows empty_reading (printed s) (all_read to s)
+  pub follows : Follows empty_reading (lines_of_source s) (all_read to s)
 
 tree_follows : (s : Source) → is_printable s ≡ true → IsFormed s → IsListable s → IsAllRead s
-unfolding printed
+unfolding lines_of_source
 tree_follows s printable formed listable =
     let words = are_words s printable in
     let interfaces = interfaces_read s.interfaces s [] part.Super (refl, refl) formed.interfaces words.interfaces in
@@ -71,15 +71,15 @@ tree_follows s printable formed listable =
           (
             reading part.Super s [] [] [] None,
             superclass_line s formed.superclass words.superclass,
-            follow (map (λ name. joined (codes ".implements" ∷ name ∷ [])) s.interfaces) (map field_line s.fields ++ flat_map method_text s.methods) (reading part.Super s [] [] [] None) (reading interfaces.to s s.interfaces [] [] None) (all_read methods.to s) interfaces.follows members,
+            follow (map (λ name. join_words (codes ".implements" ∷ name ∷ [])) s.interfaces) (map field_line s.fields ++ flat_map method_text s.methods) (reading part.Super s [] [] [] None) (reading interfaces.to s s.interfaces [] [] None) (all_read methods.to s) interfaces.follows members,
           ),
         ),
       );
     }
 
 -- A text whose lines are those of a tree is read as the tree, if the tree is printable, formed and listable.
-pub listed_is_read : (text : List ℕ) (tree : Source) → map units_of (lines text) ≡ printed tree → is_printable tree ≡ true → IsFormed tree → IsListable tree → source_of text ≡ Ok tree
+pub listed_is_read : (text : List ℕ) (tree : Source) → map units_of (lines text) ≡ lines_of_source tree → is_printable tree ≡ true → IsFormed tree → IsListable tree → source_of text ≡ Ok tree
 unfolding source_of
 listed_is_read text tree same printable formed listable =
     let all = tree_follows tree printable formed listable in
-    rw (lines_follow (lines text) (printed tree) 0 empty_reading (all_read all.to tree) same all.follows) refl
+    rw (lines_follow (lines text) (lines_of_source tree) 0 empty_reading (all_read all.to tree) same all.follows) refl

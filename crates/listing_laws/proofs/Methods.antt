@@ -28,7 +28,7 @@ use Rattle.jasmin.specs.Statements.{statement_of, is_permitted, method_line, thr
 use Rattle.jasmin.specs.Denote.{has_code}
 use Rattle.jasmin.specs.Reading.{with_line, with_statement, is_in_place, is_in_order, is_repeated, is_method_like}
 use Rattle.source_form_laws.specs.Formed.{IsFormedCaught, IsFormedMethodLines}
-use Rattle.listing_spec.specs.Printed.{joined, access_names, caught_word, item_lines, body_lines, method_text}
+use Rattle.listing_spec.specs.Printed.{join_words, access_names, caught_word, item_lines, body_lines, method_text}
 use Rattle.listing_spec.specs.Printed.{throws_line as printed_throws, catch_line as printed_catch}
 use Rattle.listing_spec.specs.Printable.{is_word, is_before_descriptor, is_printable_caught, is_printable_item, is_printable_method}
 use Rattle.listing_spec.specs.Listable.{IsListableCatch, IsBare, IsListableMethod}
@@ -81,7 +81,7 @@ method_statement interface m ws flags apart formed none =
     rw (but_last_is (as_words ws) (lexeme.Word (m.name ++ m.descriptor)), last_is (as_words ws) (lexeme.Word (m.name ++ m.descriptor)), apart, flags, cut.before, cut.from, formed.name, formed.descriptor, permitted interface m.access m.name formed.permitted) refl
 
 method_adds : (p : Part) → is_in_order p part.Members ≡ true → (s : Source) (ms : List MethodLines) (m : MethodLines) → IsFormedMethodLines (is_interface s.access) m → IsListableMethod m → is_before_descriptor m.name ≡ true → is_word m.descriptor ≡ true → list_any (is_method_like m.name m.descriptor) ms ≡ false
-    → with_line (reading p s s.interfaces s.fields ms None) (joined (codes ".method" ∷ access_names method_words m.access ++ (m.name ++ m.descriptor) ∷ [])) ≡ Ok (throwing s ms m [])
+    → with_line (reading p s s.interfaces s.fields ms None) (join_words (codes ".method" ∷ access_names method_words m.access ++ (m.name ++ m.descriptor) ∷ [])) ≡ Ok (throwing s ms m [])
 unfolding kind_of is_in_place statement_of is_repeated with_statement
 method_adds p late s ms m formed listable name descriptor new =
     let ws = access_names method_words m.access in
@@ -121,13 +121,13 @@ locals_statement : (n : ℕ) → n < 2 ^ 16 → limit_line (lexeme.Word (codes "
 unfolding limit_line
 locals_statement n small = rw (u16_reads n small) refl
 
-stack_adds : (s : Source) (ms : List MethodLines) (m : MethodLines) → m.max_stack < 2 ^ 16 → with_line (throwing s ms m m.throws) (joined (codes ".limit" ∷ codes "stack" ∷ decimal m.max_stack ∷ [])) ≡ Ok (limited s ms m)
+stack_adds : (s : Source) (ms : List MethodLines) (m : MethodLines) → m.max_stack < 2 ^ 16 → with_line (throwing s ms m m.throws) (join_words (codes ".limit" ∷ codes "stack" ∷ decimal m.max_stack ∷ [])) ≡ Ok (limited s ms m)
 unfolding kind_of is_in_place statement_of is_repeated with_statement
 stack_adds s ms m small =
     words_add (throwing s ms m m.throws) (codes ".limit" ∷ codes "stack" ∷ decimal m.max_stack ∷ []) (lexeme.Word (codes ".limit") ∷ lexeme.Word (codes "stack") ∷ lexeme.Word (decimal m.max_stack) ∷ []) (kind.Directive directive.Limit) (statement.MaxStack m.max_stack)
     (fixed_piece (codes ".limit") refl, (fixed_piece (codes "stack") refl, (plain_piece (decimal m.max_stack) (decimal_plain m.max_stack (omega arith)), tt))) refl refl (stack_statement m.max_stack small) refl
 
-locals_adds : (s : Source) (ms : List MethodLines) (m : MethodLines) → m.max_locals < 2 ^ 16 → with_line (limited s ms m) (joined (codes ".limit" ∷ codes "locals" ∷ decimal m.max_locals ∷ [])) ≡ Ok (catching s ms m [])
+locals_adds : (s : Source) (ms : List MethodLines) (m : MethodLines) → m.max_locals < 2 ^ 16 → with_line (limited s ms m) (join_words (codes ".limit" ∷ codes "locals" ∷ decimal m.max_locals ∷ [])) ≡ Ok (catching s ms m [])
 unfolding kind_of is_in_place statement_of is_repeated with_statement
 locals_adds s ms m small =
     words_add (limited s ms m) (codes ".limit" ∷ codes "locals" ∷ decimal m.max_locals ∷ []) (lexeme.Word (codes ".limit") ∷ lexeme.Word (codes "locals") ∷ lexeme.Word (decimal m.max_locals) ∷ []) (kind.Directive directive.Limit) (statement.MaxLocals m.max_locals)
@@ -177,7 +177,7 @@ abbrev behind : Source → List MethodLines → MethodLines → Reading
 behind s ms m = reading part.Members s s.interfaces s.fields (ms ++ m ∷ []) None
 
 end_adds : (s : Source) (ms : List MethodLines) (m : MethodLines) → with_line (coding s ms m m.code None) (codes ".end method") ≡ Ok (behind s ms m)
-unfolding joined kind_of is_in_place statement_of end_line is_repeated with_statement
+unfolding join_words kind_of is_in_place statement_of end_line is_repeated with_statement
 end_adds s ms m =
     words_add (coding s ms m m.code None) (codes ".end" ∷ codes "method" ∷ []) (lexeme.Word (codes ".end") ∷ lexeme.Word (codes "method") ∷ []) (kind.Directive directive.End) statement.EndMethod
     (fixed_piece (codes ".end") refl, (fixed_piece (codes "method") refl, tt)) refl refl refl refl
@@ -190,7 +190,7 @@ bare_is : (m : MethodLines) → IsBare m → unlimited m ≡ m
 bare_is m bare = λ t. record { access = m.access; name = m.name; descriptor = m.descriptor; throws = m.throws; max_stack = sym bare.0 t; max_locals = sym bare.1 t; catches = sym bare.2 t; code = sym bare.3 t }
 
 bare_end_adds : (s : Source) (ms : List MethodLines) (m : MethodLines) → IsBare m → with_line (throwing s ms m m.throws) (codes ".end method") ≡ Ok (behind s ms m)
-unfolding joined kind_of is_in_place statement_of end_line is_repeated with_statement
+unfolding join_words kind_of is_in_place statement_of end_line is_repeated with_statement
 bare_end_adds s ms m bare =
     words_add (throwing s ms m m.throws) (codes ".end" ∷ codes "method" ∷ []) (lexeme.Word (codes ".end") ∷ lexeme.Word (codes "method") ∷ []) (kind.Directive directive.End) statement.EndMethod
     (fixed_piece (codes ".end") refl, (fixed_piece (codes "method") refl, tt)) refl refl refl refl
@@ -217,7 +217,7 @@ are_words m e =
 
 body_follows : (b : Bool) (interface : Bool) (s : Source) (ms : List MethodLines) (m : MethodLines) → has_code m.name m.access ≡ b → IsFormedMethodLines interface m → IsListableMethod m → AreWords m
     → Follows (throwing s ms m m.throws)
-    (cond b (joined (codes ".limit" ∷ codes "stack" ∷ decimal m.max_stack ∷ []) ∷ joined (codes ".limit" ∷ codes "locals" ∷ decimal m.max_locals ∷ []) ∷ map printed_catch m.catches ++ flat_map item_lines m.code) [] ++ codes ".end method" ∷ []) (behind s ms m)
+    (cond b (join_words (codes ".limit" ∷ codes "stack" ∷ decimal m.max_stack ∷ []) ∷ join_words (codes ".limit" ∷ codes "locals" ∷ decimal m.max_locals ∷ []) ∷ map printed_catch m.catches ++ flat_map item_lines m.code) [] ++ codes ".end method" ∷ []) (behind s ms m)
 body_follows true interface s ms m has formed listable words =
     let catches = catches_follow m.catches s ms m [] formed.catches listable.catches words.catches in
     let items = items_follow m.code s ms m [] has formed.code listable.code words.code in

@@ -6,8 +6,8 @@ use Rattle.std.proofs.lemmas.Bool.{eqb-true, le-leb, lt-leb, ltb-true, ltb-false
 use Rattle.jvms_file.specs.Texts.{IsText}
 use Rattle.jasmin.specs.declared.token.Lexeme.TheVariants as lexeme
 use Rattle.jasmin.specs.Lexing.{digit, SpellsUnit, SpellsUnits}
-use Rattle.jasmin.specs.Lexing.{four_digits as digits_unit, escaped as unescaped}
-use Rattle.listing_spec.specs.Printed.{hexadecimal, four_digits, escaped, quoted}
+use Rattle.jasmin.specs.Lexing.{four_digits as digits_unit, unit_of_escape as unescaped}
+use Rattle.listing_spec.specs.Printed.{hexadecimal, four_digits, escape_of, quotation}
 use Rattle.listing_laws.proofs.Words.{IsPiece}
 
 -- ---- Four digits
@@ -44,7 +44,7 @@ plain_or_digits u false small quote slash = inr (inr (hexadecimal (u / 4096), he
 letter_spells : (letter v : ℕ) → unescaped letter ≡ Some v → SpellsUnit (92 ∷ letter ∷ []) v
 letter_spells letter v is = inr (inl (letter, refl, is))
 
-unit_spells : (u : ℕ) → u < 65536 → SpellsUnit (escaped u) u
+unit_spells : (u : ℕ) → u < 65536 → SpellsUnit (escape_of u) u
 unit_spells u small =
     one_escape 10 110 u _ (eqb u 10) refl (letter_spells 110 10 refl) (λ a.
     one_escape 13 114 u _ (eqb u 13) refl (letter_spells 114 13 refl) (λ b.
@@ -55,10 +55,10 @@ unit_spells u small =
     one_escape 92 92 u _ (eqb u 92) refl (letter_spells 92 92 refl) (λ slash.
     plain_or_digits u (nat_le 32 u && nat_le u 126) small quote slash)))))))
 
-units_spell : (us : List ℕ) → IsText us → SpellsUnits (flat_map escaped us) us
+units_spell : (us : List ℕ) → IsText us → SpellsUnits (flat_map escape_of us) us
 units_spell [] are = refl
-units_spell (u ∷ us) are = (escaped u, flat_map escaped us, refl, unit_spells u are.0, units_spell us are.1)
+units_spell (u ∷ us) are = (escape_of u, flat_map escape_of us, refl, unit_spells u are.0, units_spell us are.1)
 
-pub quoted_piece : (us : List ℕ) → IsText us → IsPiece (quoted us) (lexeme.Text us)
-unfolding quoted
-quoted_piece us are = record { spells = λ behind ends. (flat_map escaped us, refl, units_spell us are); plain = refl }
+pub quoted_piece : (us : List ℕ) → IsText us → IsPiece (quotation us) (lexeme.Text us)
+unfolding quotation
+quoted_piece us are = record { spells = λ behind ends. (flat_map escape_of us, refl, units_spell us are); plain = refl }

@@ -10,7 +10,7 @@ use Rattle.jasmin.specs.declared.reading.Reading.{Reading}
 use Rattle.jasmin.specs.Lexing.{is_space, ends_word, is_word_end, is_empty, begins_comment, SpellsToken, Lexes, lexemes}
 use Rattle.jasmin.specs.Reading.{with_line, with_lexemes}
 use Rattle.jasmin.proofs.Tokens.{spelled_is_lexed}
-use Rattle.listing_spec.specs.Printed.{joined}
+use Rattle.listing_spec.specs.Printed.{join_words}
 use Rattle.listing_spec.specs.Printable.{is_word, is_word_unit, is_paired}
 
 -- ---- One token
@@ -85,8 +85,8 @@ pieces_push [] vs (l ∷ ls) ms are more = absurd are
 pieces_push (w ∷ ws) vs [] ms are more = absurd are
 pieces_push (w ∷ ws) vs (l ∷ ls) ms are more = (are.0, pieces_push ws vs ls ms are.1 more)
 
-pub joined_lexes : (ws : List (List ℕ)) (ls : List Lexeme) → ArePieces ws ls → (at_start : Bool) (place : ℕ) (space : List ℕ) → list_all is_space space ≡ true → LexesAs at_start place (space ++ joined ws) ls
-unfolding joined
+pub joined_lexes : (ws : List (List ℕ)) (ls : List Lexeme) → ArePieces ws ls → (at_start : Bool) (place : ℕ) (space : List ℕ) → list_all is_space space ≡ true → LexesAs at_start place (space ++ join_words ws) ls
+unfolding join_words
 joined_lexes [] [] are at_start place space spaces = record { tokens = []; lexes = (space, [], refl, spaces, refl); are = refl }
 joined_lexes [] (l ∷ ls) are at_start place space spaces = absurd are
 joined_lexes (w ∷ ws) [] are at_start place space spaces = absurd are
@@ -104,7 +104,7 @@ joined_lexes (w ∷ v ∷ ws) (l ∷ m ∷ ls) are at_start place space spaces =
     let later = joined_lexes (v ∷ ws) (m ∷ ls) are.1 false (start + length w) (32 ∷ []) refl in
     record {
       tokens = (record { lexeme = l; start = start; end = start + length w }) ∷ later.tokens;
-      lexes = (space, w, 32 ∷ joined (v ∷ ws), refl, spaces, no_comment at_start space w are.0.plain, are.0.spells (32 ∷ joined (v ∷ ws)) refl, refl, refl, later.lexes);
+      lexes = (space, w, 32 ∷ join_words (v ∷ ws), refl, spaces, no_comment at_start space w are.0.plain, are.0.spells (32 ∷ join_words (v ∷ ws)) refl, refl, refl, later.lexes);
       are = ap (λ (ks : List Lexeme). l ∷ ks) later.are;
     }
 
@@ -123,5 +123,5 @@ pub line_is : (r : Reading) (line : List ℕ) (ls : List Lexeme) → LexesAs tru
 unfolding with_line
 line_is r line ls l = rw (spelled_is_lexed line l.tokens l.lexes, l.are) refl
 
-pub words_are : (r : Reading) (ws : List (List ℕ)) (ls : List Lexeme) → ArePieces ws ls → with_line r (joined ws) ≡ with_lexemes r ls
-words_are r ws ls are = line_is r (joined ws) ls (joined_lexes ws ls are true 0 [] refl)
+pub words_are : (r : Reading) (ws : List (List ℕ)) (ls : List Lexeme) → ArePieces ws ls → with_line r (join_words ws) ≡ with_lexemes r ls
+words_are r ws ls are = line_is r (join_words ws) ls (joined_lexes ws ls are true 0 [] refl)

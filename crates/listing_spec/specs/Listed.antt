@@ -5,11 +5,11 @@ use Rattle.jvms_file.specs.Results.{◌>>=◌, want}
 use Rattle.listing_spec.specs.declared.fault.ListFault.{ListFault}
 use Rattle.listing_spec.specs.declared.fault.ListFault.TheVariants as fault
 use Rattle.listing_spec.specs.TreeOf.{tree_of}
-use Rattle.listing_spec.specs.Printed.{printed}
+use Rattle.listing_spec.specs.Printed.{lines_of_source}
 use Rattle.listing_spec.specs.Printable.{is_printable}
 
-unfoldable pub listed : ClassFile → Result (List (List ℕ)) ListFault
-listed c = do
+unfoldable pub listing_of : ClassFile → Result (List (List ℕ)) ListFault
+listing_of c = do
   tree ← tree_of c
   _ ← want (is_printable tree) fault.Name
-  Ok (printed tree)
+  Ok (lines_of_source tree)

@@ -34,10 +34,10 @@ use Rattle.assembly.specs.Opcodes.{local_opcode, branch_opcode, wide_branch_opco
 -- ---- Words
 
 -- Joins words by single spaces.
-unfoldable pub joined : List (List ℕ) → List ℕ
-joined [] = []
-joined (w ∷ []) = w
-joined (w ∷ v ∷ ws) = w ++ 32 ∷ joined (v ∷ ws)
+unfoldable pub join_words : List (List ℕ) → List ℕ
+join_words [] = []
+join_words (w ∷ []) = w
+join_words (w ∷ v ∷ ws) = w ++ 32 ∷ join_words (v ∷ ws)
 
 -- Returns the words of the flags that are set, in the order of the table.
 unfoldable pub access_names : Access → ℕ → List (List ℕ)
@@ -64,8 +64,8 @@ abbrev pub four_digits : ℕ → List ℕ
 four_digits u = hexadecimal (u / 4096) ∷ hexadecimal (u / 256 % 16) ∷ hexadecimal (u / 16 % 16) ∷ hexadecimal (u % 16) ∷ []
 
 -- Returns the spelling of a unit of a text: an escape, or the unit itself.
-abbrev pub escaped : ℕ → List ℕ
-escaped u =
+abbrev pub escape_of : ℕ → List ℕ
+escape_of u =
     if u == 10 then codes "\\n"
     else (if u == 13 then codes "\\r"
     else (if u == 9 then codes "\\t"
@@ -76,8 +76,8 @@ escaped u =
     else (if nat_le 32 u && nat_le u 126 then u ∷ []
     else 92 ∷ 117 ∷ four_digits u)))))))
 
-unfoldable pub quoted : List ℕ → List ℕ
-quoted text = 34 ∷ flat_map escaped text ++ 34 ∷ []
+unfoldable pub quotation : List ℕ → List ℕ
+quotation text = 34 ∷ flat_map escape_of text ++ 34 ∷ []
 
 -- ---- Instructions
 
@@ -117,7 +117,7 @@ array_type_name array_type.Long = codes "long"
 
 abbrev pub loaded_word : LoadedConstant → List ℕ
 loaded_word (loaded.Integer n) = signed_decimal n
-loaded_word (loaded.String text) = quoted text
+loaded_word (loaded.String text) = quotation text
 loaded_word (loaded.Class name) = name
 
 -- Returns `class/name`.
@@ -150,7 +150,7 @@ operand_words (operation.MultiNewArray name count) = name ∷ decimal count ∷ 
 
 -- Returns a line of a switch, indented by four spaces.
 abbrev pub switch_line : List (List ℕ) → List ℕ
-switch_line words = codes "    " ++ joined words
+switch_line words = codes "    " ++ join_words words
 
 abbrev pub default_line : List ℕ → List ℕ
 default_line label = switch_line (codes "default" ∷ codes ":" ∷ label ∷ [])
@@ -168,7 +168,7 @@ lines_after _ = []
 -- switch.
 unfoldable pub item_lines : CodeItem → List (List ℕ)
 item_lines (item.Label name) = (name ++ codes ":") ∷ []
-item_lines (item.Operation o) = (codes "  " ++ joined (mnemonic (opcode_of o) ∷ operand_words o)) ∷ lines_after o
+item_lines (item.Operation o) = (codes "  " ++ join_words (mnemonic (opcode_of o) ∷ operand_words o)) ∷ lines_after o
 
 -- ---- Members
 
@@ -176,11 +176,11 @@ abbrev pub value_words : Option FieldConstant → List (List ℕ)
 value_words None = []
 value_words (Some (constant.Integer n)) = codes "=" ∷ signed_decimal n ∷ []
 value_words (Some (constant.Long n)) = codes "=" ∷ signed_decimal n ∷ []
-value_words (Some (constant.String text)) = codes "=" ∷ quoted text ∷ []
+value_words (Some (constant.String text)) = codes "=" ∷ quotation text ∷ []
 
 unfoldable pub field_line : FieldLine → List ℕ
 field_line f =
-    joined (codes ".field" ∷ access_names field_words f.access ++ (f.name ∷ f.descriptor ∷ value_words f.constant))
+    join_words (codes ".field" ∷ access_names field_words f.access ++ (f.name ∷ f.descriptor ∷ value_words f.constant))
 
 abbrev pub caught_word : Caught → List ℕ
 caught_word caught.All = codes "all"
@@ -188,23 +188,23 @@ caught_word (caught.Class name) = name
 
 abbrev pub catch_line : CatchLine → List ℕ
 catch_line c =
-    joined (codes ".catch" ∷ caught_word c.caught ∷ codes "from" ∷ c.from ∷ codes "to" ∷ c.to ∷ codes "using" ∷ c.using ∷ [])
+    join_words (codes ".catch" ∷ caught_word c.caught ∷ codes "from" ∷ c.from ∷ codes "to" ∷ c.to ∷ codes "using" ∷ c.using ∷ [])
 
 abbrev pub throws_line : List ℕ → List ℕ
-throws_line name = joined (codes ".throws" ∷ name ∷ [])
+throws_line name = join_words (codes ".throws" ∷ name ∷ [])
 
 -- Returns the limits, the catches and the code of a method that has code.
 unfoldable pub body_lines : MethodLines → List (List ℕ)
 body_lines m =
     if has_code m.name m.access
-    then joined (codes ".limit" ∷ codes "stack" ∷ decimal m.max_stack ∷ [])
-    ∷ joined (codes ".limit" ∷ codes "locals" ∷ decimal m.max_locals ∷ [])
+    then join_words (codes ".limit" ∷ codes "stack" ∷ decimal m.max_stack ∷ [])
+    ∷ join_words (codes ".limit" ∷ codes "locals" ∷ decimal m.max_locals ∷ [])
     ∷ map catch_line m.catches ++ flat_map item_lines m.code
     else []
 
 unfoldable pub method_text : MethodLines → List (List ℕ)
 method_text m =
-    joined (codes ".method" ∷ access_names method_words m.access ++ (m.name ++ m.descriptor) ∷ [])
+    join_words (codes ".method" ∷ access_names method_words m.access ++ (m.name ++ m.descriptor) ∷ [])
     ∷ map throws_line m.throws ++ (body_lines m ++ codes ".end method" ∷ [])
 
 -- ---- The class
@@ -212,12 +212,12 @@ method_text m =
 abbrev pub class_line : Source → List ℕ
 class_line s =
     if is_interface s.access
-    then joined (codes ".interface" ∷ access_names written_interface_words s.access ++ s.name ∷ [])
-    else joined (codes ".class" ∷ access_names written_class_words s.access ++ s.name ∷ [])
+    then join_words (codes ".interface" ∷ access_names written_interface_words s.access ++ s.name ∷ [])
+    else join_words (codes ".class" ∷ access_names written_class_words s.access ++ s.name ∷ [])
 
 -- Returns the lines of a source.
-unfoldable pub printed : Source → List (List ℕ)
-printed s =
-    codes ".bytecode 49.0" ∷ class_line s ∷ joined (codes ".super" ∷ s.superclass ∷ [])
-    ∷ map (λ name. joined (codes ".implements" ∷ name ∷ [])) s.interfaces
+unfoldable pub lines_of_source : Source → List (List ℕ)
+lines_of_source s =
+    codes ".bytecode 49.0" ∷ class_line s ∷ join_words (codes ".super" ∷ s.superclass ∷ [])
+    ∷ map (λ name. join_words (codes ".implements" ∷ name ∷ [])) s.interfaces
     ++ (map field_line s.fields ++ flat_map method_text s.methods)

@@ -28,7 +28,7 @@ use Rattle.jvms_file.specs.declared.insn.TableSwitch.{TableSwitch}
 use Rattle.jvms_file.specs.declared.insn.LookupSwitch.{LookupSwitch}
 use Rattle.jvms_file.specs.ConstantPool.{entry}
 use Rattle.jvms_file.specs.Members.{is_interface}
-use Rattle.jvms_file.specs.Results.{◌>>=◌, want, collected}
+use Rattle.jvms_file.specs.Results.{◌>>=◌, want, results_of}
 use Rattle.jvms_program.specs.declared.program.FieldReference.{FieldReference}
 use Rattle.jvms_program.specs.declared.program.MethodReference.{MethodReference}
 use Rattle.jvms_program.specs.Meaning.{text_of, class_text, field_reference_of, method_reference_of, code_of, throws_of}
@@ -214,6 +214,6 @@ class_flags access = if is_interface access then bit_or (bit_and access 49) 1536
 unfoldable pub tree_of : ClassFile → Result Source ListFault
 tree_of c = do
   _ ← want (not (c.super_class == 0)) fault.Name
-  fields ← collected (field_line c.pool) c.fields
-  methods ← collected (method_lines c.pool) c.methods
+  fields ← results_of (field_line c.pool) c.fields
+  methods ← results_of (method_lines c.pool) c.methods
   Ok (record { access = class_flags c.access; name = class_text c.pool c.this_class; superclass = class_text c.pool c.super_class; interfaces = map (class_text c.pool) c.interfaces; fields = fields; methods = methods })

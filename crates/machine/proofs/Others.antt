@@ -18,10 +18,10 @@ use Rattle.jvms_machine.specs.Decisions.{TurnDecision}
 use Rattle.jvms_machine.specs.Fields.{reaches}
 use Rattle.jvms_machine.specs.Status.{is_bad}
 use Rattle.jvms_program.specs.declared.program.Body.{Body}
-use Rattle.machine_parts.specs.Decided.{seen, action_value, effect_value}
+use Rattle.machine_parts.specs.Decided.{decision_value, action_value, effect_value}
 use Rattle.machine_parts.specs.Machine.{Machine, IsMachine, decision_of, transition_of, with_state}
 use Rattle.machine_parts.specs.declared.decision.ActionText.{ActionText}
-use Rattle.machine.specs.declared.making.Turn.{Turn}
+use Rattle.machine.specs.declared.applying.Turn.{Turn}
 use Rattle.machine.specs.Others.{IsLeft, IsQuietTurn, LeavesOthers}
 
 -- ---- Quietness doesn't depend on the texts of an action
@@ -34,7 +34,7 @@ effect_seen (effect.GetStatic n) = refl
 effect_seen (effect.PutStatic n v) = refl
 effect_seen (effect.LoadElement r i) = refl
 effect_seen (effect.StoreElement r i v) = refl
-effect_seen (effect.Makes what) = refl
+effect_seen (effect.Creates what) = refl
 effect_seen (effect.Prints what ends_line) = refl
 effect_seen (effect.Locks monitor) = refl
 effect_seen (effect.Unlocks monitor) = refl
@@ -62,16 +62,16 @@ action_seen (action.Retakes w) = refl
 action_seen (action.Raises e) = refl
 action_seen (action.Fails e) = refl
 
-decision_seen : (d : Decision (Bor Body) ActionText) → is_quiet_decision (seen d) ≡ is_quiet_decision d
-decision_seen (decision.Unmade o) = refl
-decision_seen (decision.Makes act) = action_seen act
+decision_seen : (d : Decision (Bor Body) ActionText) → is_quiet_decision (decision_value d) ≡ is_quiet_decision d
+decision_seen (decision.Stays o) = refl
+decision_seen (decision.Applies act) = action_seen act
 
 -- A quiet decision of the code is a quiet decision of the definitions.
-pub decided_quietly : (m : Machine) (t : ℕ) (what : Decision (Bor Body) ActionText) → seen what ≡ decision_of m t → is_quiet_decision what ≡ true → IsQuietTurn m t
+pub decided_quietly : (m : Machine) (t : ℕ) (what : Decision (Bor Body) ActionText) → decision_value what ≡ decision_of m t → is_quiet_decision what ≡ true → IsQuietTurn m t
 decided_quietly m t what told quiet = ap is_quiet_decision (sym told) ∙ decision_seen what ∙ quiet
 
 -- A quiet decision of the code is quiet in the definitions.
-pub seen_quietly : (what : Decision (Bor Body) ActionText) (d : TurnDecision) → seen what ≡ d → is_quiet_decision what ≡ true → is_quiet_decision d ≡ true
+pub seen_quietly : (what : Decision (Bor Body) ActionText) (d : TurnDecision) → decision_value what ≡ d → is_quiet_decision what ≡ true → is_quiet_decision d ≡ true
 seen_quietly what d is quiet = ap is_quiet_decision (sym is) ∙ decision_seen what ∙ quiet
 
 -- A turn that a fast path decided is quiet if its effect is.
@@ -79,11 +79,11 @@ pub reached_quietly : (m : Machine) (t : ℕ) (what : Effect (List ℕ)) (act : 
 reached_quietly m t what act is quiet = ap is_quiet_decision is ∙ quiet
 
 -- A call that enters no monitor is quiet.
-pub called_quietly : (m : Machine) (t : ℕ) (method : MethodNumber) (code : Body) (takes : ℕ) → decision_of m t ≡ decision.Makes (action.Calls method code takes lock.Nothing) → IsQuietTurn m t
+pub called_quietly : (m : Machine) (t : ℕ) (method : MethodNumber) (code : Body) (takes : ℕ) → decision_of m t ≡ decision.Applies (action.Calls method code takes lock.Nothing) → IsQuietTurn m t
 called_quietly m t method code takes is = ap is_quiet_decision is
 
 -- A return that leaves no monitor is quiet.
-pub returned_quietly : (m : Machine) (t : ℕ) (method : MethodNumber) (value : Option Value) → decision_of m t ≡ decision.Makes (action.Returns method value None) → IsQuietTurn m t
+pub returned_quietly : (m : Machine) (t : ℕ) (method : MethodNumber) (value : Option Value) → decision_of m t ≡ decision.Applies (action.Returns method value None) → IsQuietTurn m t
 returned_quietly m t method value is = ap is_quiet_decision is
 
 -- A quiet turn leaves each other thread as enabled as it was.

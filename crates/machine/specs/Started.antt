@@ -5,7 +5,7 @@ use Rattle.jvms_machine.specs.declared.machine.Limits.{Limits}
 use Rattle.jvms_program.specs.declared.number.MethodNumber.{MethodNumber}
 use Rattle.jvms_program.specs.declared.program.Class.{Class}
 use Rattle.jvms_machine.specs.Start.{Start, entry_arguments}
-use Rattle.jvms_machine.specs.Opening.{made, opening, no_entry, no_limits}
+use Rattle.jvms_machine.specs.Opening.{start_of_entry, opening, no_entry, no_limits}
 use Rattle.machine.specs.declared.fault.MachineFault.{MachineFault}
 use Rattle.machine.specs.declared.fault.MachineFault.TheVariants as fault
 use Rattle.machine_parts.specs.Machine.{Machine}
@@ -19,11 +19,11 @@ opened program limits start = record { program = program; limits = limits; start
 
 -- The fault of a machine that isn't made: the entry is tested first, then the limits, and then memory can run out.
 abbrev pub IsNotMade : List Class → Limits → Entry → MachineFault → Type 0
-IsNotMade program limits e fault.NoEntry = made program limits e ≡ Err no_entry
-IsNotMade program limits e fault.Limits = made program limits e ≡ Err no_limits
-IsNotMade program limits e fault.Memory = IsTrue (is_ok (made program limits e))
+IsNotMade program limits e fault.NoEntry = start_of_entry program limits e ≡ Err no_entry
+IsNotMade program limits e fault.Limits = start_of_entry program limits e ≡ Err no_limits
+IsNotMade program limits e fault.Memory = IsTrue (is_ok (start_of_entry program limits e))
 
 -- The result is a machine at its opening with the start of the entry, or the fault.
 abbrev pub IsNew : List Class → Limits → Entry → Result Machine MachineFault → Type 0
 IsNew program limits e result =
-    MatchResult result (λ m. (start : Start) × (made program limits e ≡ Ok start) × (m ≡ opened program limits start)) (IsNotMade program limits e)
+    MatchResult result (λ m. (start : Start) × (start_of_entry program limits e ≡ Ok start) × (m ≡ opened program limits start)) (IsNotMade program limits e)

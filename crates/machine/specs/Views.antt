@@ -19,9 +19,9 @@ abbrev pub frame_at : Machine → ℕ → ℕ → Option Frame
 frame_at m t depth = option_and_then (λ x. slice_get x.frames depth) (thread_at m t)
 
 -- Returns the frame of a view.
-abbrev pub shown : FrameView → Frame
-shown (frame_view.Call frame) = stack_frame.Call frame.now
-shown (frame_view.Initialisation class called) = stack_frame.Initialisation class called
+abbrev pub frame_of : FrameView → Frame
+frame_of (frame_view.Call frame) = stack_frame.Call frame.now
+frame_of (frame_view.Initialisation class called) = stack_frame.Initialisation class called
 
 -- ---- Ends of threads
 

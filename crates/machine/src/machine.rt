@@ -1,17 +1,17 @@
 //! The machine.
 
 ghost use Rattle.std.specs.Prelude.{◌≡◌, ◌≤◌, ◌++◌, length, IsOk, IsTrue, IfOk, OnOk, OnErr, is_ok};
-ghost use Rattle.jvms_machine.specs.Opening.{made};
+ghost use Rattle.jvms_machine.specs.Opening.{start_of_entry};
 ghost use Rattle.jvms_machine.specs.State.{Sound};
 ghost use Rattle.machine_parts.specs.Machine.{transition_of, with_state, TakesNone};
 ghost use Rattle.machine.specs.Others.{LeavesOthers};
 ghost use Rattle.machine.specs.Runs.{AreRunTurns};
 ghost use Rattle.machine.specs.Started.{IsNew};
-ghost use Rattle.trace.specs.Recording.{recorded};
+ghost use Rattle.trace.specs.Recording.{with_items};
 
+use crate::applying::Turn;
 use crate::fault::MachineFault;
 use crate::limits::are_limits;
-use crate::making::Turn;
 use crate::opening::open;
 use crate::peek::peek;
 use crate::running::{step, step_consecutive};
@@ -27,7 +27,7 @@ use trace::{Recording, Trace};
 /// Decides whether a machine can be made of this program with these limits and this entry. The entry's method must
 /// exist, be static, not be `<clinit>`, and take the arguments. Each limit must be in its range. Takes no memory.
 pub fn admits(program: &Program, limits: Limits, entry: &Entry) -> bool
-    ensures { result ≡ is_ok (made program.now limits entry.now) }
+    ensures { result ≡ is_ok (start_of_entry program.now limits entry.now) }
 {
     start_of(program, entry).is_some() && are_limits(limits)
 }
@@ -108,7 +108,7 @@ impl<'p> Machine<'p> {
         ensures state { OnOk result
             (self.new ≡ with_state self.old (transition_of self.old t).state) }
         ensures items { OnOk result
-            (recording.new ≡ recorded recording.old (transition_of self.old t).items) }
+            (recording.new ≡ with_items recording.old (transition_of self.old t).items) }
         ensures kept { OnErr result (self.new ≡ self.old) }
         ensures no_items { OnErr result (recording.new ≡ recording.old) }
         ensures none { TakesNone self.old t → IsOk result }
@@ -141,7 +141,7 @@ impl<'p> Machine<'p> {
         ensures state { OnOk result
             (self.new ≡ with_state self.old (transition_of self.old t).state) }
         ensures items { OnOk result
-            (recording.new ≡ recorded recording.old (transition_of self.old t).items) }
+            (recording.new ≡ with_items recording.old (transition_of self.old t).items) }
         ensures others { IfOk result
             (λ turn. IsTrue turn.is_quiet → LeavesOthers self.old t self.new) }
         ensures kept { OnErr result (self.new ≡ self.old) }

@@ -16,7 +16,7 @@ use Rattle.jvms_program.specs.declared.program.Class.{Class}
 use Rattle.jvms_machine.specs.declared.value.Value.{Value}
 use Rattle.jvms_file.specs.declared.descriptor.FieldType.{FieldType}
 use Rattle.jvms_machine.specs.Actions.{constant_value, with_constants}
-use Rattle.machine_parts.specs.Constants.{text_constant, constant_text, has_constant_text, is_new, is_new_text, behind, text_where, text_to_make, text_value}
+use Rattle.machine_parts.specs.Constants.{text_constant, constant_text, has_constant_text, is_new, is_new_text, with_text, text_where, text_to_make, text_value}
 
 -- ---- One more string
 
@@ -165,15 +165,15 @@ pub counted_old : (heap : List Object) (fields : List Field) (i n m : ℕ) (f : 
 counted_old heap fields i n m f new within there so_far is was none = none ∙ sym (add-zero n) ∙ ap (λ b. n + one_if b) (sym was) ∙ next_by heap fields i n f new within there so_far is
 
 -- The string that a field adds is appended to those before it.
-added_behind : (xs : List (List ℕ)) (new : Bool) (o : Option (List ℕ)) → behind xs (text_where new o) ≡ xs ++ new_of new o
+added_behind : (xs : List (List ℕ)) (new : Bool) (o : Option (List ℕ)) → with_text xs (text_where new o) ≡ xs ++ new_of new o
 added_behind xs true (Some units) = refl
 added_behind xs true None = sym (append-nil xs)
 added_behind xs false o = sym (append-nil xs)
 
 pub texts_behind : (heap : List Object) (fields : List Field) (i : ℕ) (xs ys : List (List ℕ)) (f : Field) → i < length fields → f ≡ get_or fields i f → xs ≡ texts heap (take i fields)
-    → ys ≡ behind xs (text_to_make heap (take i fields) f) → ys ≡ texts heap (take (i + 1) fields)
+    → ys ≡ with_text xs (text_to_make heap (take i fields) f) → ys ≡ texts heap (take (i + 1) fields)
 texts_behind heap fields i xs ys f within there so_far is =
-    is ∙ ap (λ l. behind l (text_to_make heap (take i fields) f)) so_far
+    is ∙ ap (λ l. with_text l (text_to_make heap (take i fields) f)) so_far
     ∙ added_behind (texts heap (take i fields)) (is_new_text heap (take i fields) f) (constant_text f) ∙ sym (texts_further heap fields i f within there)
 
 -- ---- Stored constants

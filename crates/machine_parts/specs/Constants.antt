@@ -42,9 +42,9 @@ abbrev pub text_to_make : List Object → List Field → Field → Option (List 
 text_to_make heap before f = text_where (is_new heap before (constant_text f)) (constant_text f)
 
 -- Appends the string that a field adds, if it adds one.
-abbrev pub behind : List (List ℕ) → Option (List ℕ) → List (List ℕ)
-behind texts None = texts
-behind texts (Some units) = texts ++ units ∷ []
+abbrev pub with_text : List (List ℕ) → Option (List ℕ) → List (List ℕ)
+with_text texts None = texts
+with_text texts (Some units) = texts ++ units ∷ []
 
 -- Decides whether a field's string has no object yet, and no field before it has the same string.
 abbrev pub is_new_text : List Object → List Field → Field → Bool

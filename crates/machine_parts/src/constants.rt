@@ -6,7 +6,7 @@ ghost use Rattle.std.specs.Option.{option_map};
 ghost use Rattle.jvms_machine.specs.State.{text_reference};
 ghost use Rattle.jvms_machine.specs.Initialisation.{constants_of, new_texts};
 ghost use Rattle.jvms_machine.specs.Actions.{constant_value, with_constants};
-ghost use Rattle.machine_parts.specs.Constants.{behind, constant_text, has_constant_text, is_new, is_new_text, text_to_make, text_value};
+ghost use Rattle.machine_parts.specs.Constants.{with_text, constant_text, has_constant_text, is_new, is_new_text, text_to_make, text_value};
 ghost use Rattle.machine_parts.specs.Machine.{with_statics};
 ghost use Rattle.machine_parts.specs.Ready.{texts_to_make};
 
@@ -53,8 +53,8 @@ impl<'p> Parts<'p> {
     fn is_new(&self, before: &[Field], units: &[u16]) -> bool
         ensures { result ≡ is_new self.now.state.heap before.now (Some units.now) }
     {
-        let is_held = self.heap.text_reference(units).is_some();
-        !is_held && !any_stores(before, units)
+        let exists = self.heap.text_reference(units).is_some();
+        !exists && !any_stores(before, units)
     }
 
     /// Decides whether a field stores a string that has no object yet and that no field before it stores.
@@ -103,7 +103,7 @@ impl<'p> Parts<'p> {
         field: &Field,
     ) -> Result<(), AllocError>
         ensures { OnOk result (texts.new.items
-            ≡ behind texts.old.items (text_to_make self.now.state.heap before.now field.now)) }
+            ≡ with_text texts.old.items (text_to_make self.now.state.heap before.now field.now)) }
     {
         if let Some(text) = self.text_to_make(before, field) {
             texts.push(text.share()?)?;

@@ -3,8 +3,8 @@
 ghost use Rattle.std.specs.Prelude.{◌≡◌, ◌+◌, ◌<◌, ◌^◌, Some};
 ghost use Rattle.jvms_machine.specs.Activations.{has_depth};
 ghost use Rattle.jvms_machine.specs.Decisions.{bad, never_seen, outcome_of};
-ghost use Rattle.jvms_machine.specs.Fields.{reaches, read, taking};
-ghost use Rattle.machine_parts.specs.Decided.{seen, effect_value};
+ghost use Rattle.jvms_machine.specs.Fields.{reaches, read_decision, taking};
+ghost use Rattle.machine_parts.specs.Decided.{decision_value, effect_value};
 
 use frames::Frame;
 use jvms_file::insn::ArrayType;
@@ -40,15 +40,15 @@ pub type Decided<'p> = Decision<&'p Body, ActionText<'p>>;
 /// Returns the decision that the turn can't be taken, with its cause.
 #[inline(always)]
 pub fn bad<'p>(cause: BadCause) -> Decided<'p>
-    ensures { seen result ≡ bad cause }
+    ensures { decision_value result ≡ bad cause }
 {
-    Decision::Unmade(Outcome::Bad { cause })
+    Decision::Stays(Outcome::Bad { cause })
 }
 
 /// Returns the decision for cases that a sound state excludes, such as a missing class or method.
 #[inline(always)]
 pub fn never_seen<'p>() -> Decided<'p>
-    ensures { seen result ≡ never_seen }
+    ensures { decision_value result ≡ never_seen }
 {
     bad(BadCause::OutOfProfile)
 }
@@ -64,21 +64,22 @@ pub fn has_depth(frame: &Frame, takes: u8, gives: u8) -> bool
 /// Returns the decision that the top call continues, with this effect.
 #[inline(always)]
 pub fn reaches<'p>(effect: Effect<ActionText<'p>>, action: FrameAction) -> Decided<'p>
-    ensures { seen result ≡ reaches (effect_value effect.entry) action }
+    ensures { decision_value result ≡ reaches (effect_value effect.entry) action }
 {
-    Decision::Makes(Action::Reaches(effect, action))
+    Decision::Applies(Action::Reaches(effect, action))
 }
 
 /// Decides to replace the topmost `takes` operands by a value that is read. Stops with `Depth` if the value doesn't fit
 /// `max_stack`.
 #[inline(always)]
-pub fn read<'p>(
+pub fn read_decision<'p>(
     frame: &Frame,
     effect: Effect<ActionText<'p>>,
     takes: u8,
     value: Value,
 ) -> Decided<'p>
-    ensures { seen result ≡ read frame.now (effect_value effect.entry) takes (Some value) }
+    ensures { decision_value result
+        ≡ read_decision frame.now (effect_value effect.entry) takes (Some value) }
 {
     if has_depth(frame, takes, exec::value_size(value)) {
         reaches(effect, FrameAction::Push { takes, value })
@@ -102,24 +103,24 @@ pub fn taking(takes: u16, frame: &Frame) -> FrameAction
 /// Returns the outcome of a decision.
 #[inline(always)]
 pub fn outcome(decision: Decided<'_>) -> Outcome
-    ensures { result ≡ outcome_of (seen decision.entry) }
+    ensures { result ≡ outcome_of (decision_value decision.entry) }
 {
     match decision {
-        Decision::Unmade(outcome) => outcome,
-        Decision::Makes(
+        Decision::Stays(outcome) => outcome,
+        Decision::Applies(
             Action::Ends { .. }
             | Action::Fails(_)
             | Action::Unwinds { last: true, .. }
             | Action::FailsToUnlock { last: true, .. }
             | Action::FailsInitialisation { last: true, .. },
         ) => Outcome::Ended { last: true },
-        Decision::Makes(
+        Decision::Applies(
             Action::Raises(_)
             | Action::Throws { .. }
             | Action::Unwinds { .. }
             | Action::FailsToUnlock { .. }
             | Action::FailsInitialisation { .. },
         ) => Outcome::Raised,
-        Decision::Makes(_) => Outcome::Ran,
+        Decision::Applies(_) => Outcome::Ran,
     }
 }

@@ -4,7 +4,7 @@ ghost use Rattle.std.specs.Prelude.{◌≡◌, ◌+◌, ◌<◌, ◌^◌, IsTrue
 ghost use Rattle.std.specs.Option.{option_map};
 ghost use Rattle.jvms_program.specs.BuiltIn.{built_in_classes};
 ghost use Rattle.jvms_machine.specs.Exceptions.{thrown_class, has_room_for, exception_of, throws};
-ghost use Rattle.machine_parts.specs.Decided.{seen};
+ghost use Rattle.machine_parts.specs.Decided.{decision_value};
 
 use crate::decision::Decided;
 use crate::parts::Parts;
@@ -14,10 +14,10 @@ use machine_thread::Thread;
 use program::Program;
 
 /// The `OutOfMemoryError` object that every heap has.
-const OUT_OF_MEMORY: Exception = Exception::Held { reference: 1 };
+const OUT_OF_MEMORY: Exception = Exception::Existing { reference: 1 };
 
 /// The `StackOverflowError` object that every heap has.
-const STACK_OVERFLOW: Exception = Exception::Held { reference: 2 };
+const STACK_OVERFLOW: Exception = Exception::Existing { reference: 2 };
 
 /// Returns the index of an exception's class in the list of built-in classes.
 #[tactic(auto, unfolding(jvms_program::specs::BuiltIn::built_in_classes, jvms_machine::specs::Exceptions::thrown_class))]
@@ -73,8 +73,8 @@ impl<'p> Parts<'p> {
         ensures number { IsTrue result → length self.now.state.heap + count < 2 ^ 32 }
     {
         let most = self.limits.objects as usize;
-        let held = self.heap.count();
-        held <= most && count <= most - held
+        let existing = self.heap.count();
+        existing <= most && count <= most - existing
     }
 
     /// Returns the object to throw for an exception's class. Without room for a new object it is the
@@ -98,7 +98,7 @@ impl<'p> Parts<'p> {
     /// Returns the decision that a thread's turn throws an exception of this class.
     #[tactic(auto, unfolding(jvms_machine::specs::Exceptions::throws))]
     pub fn throws(&self, thread: &Thread, class: Thrown) -> Decided<'p>
-        ensures { seen result ≡ throws self.now.limits self.now.state thread.now class }
+        ensures { decision_value result ≡ throws self.now.limits self.now.state thread.now class }
     {
         let exception = self.exception_of(class);
         let action = if thread.height() == 0 {
@@ -106,6 +106,6 @@ impl<'p> Parts<'p> {
         } else {
             Action::Raises(exception)
         };
-        Decision::Makes(action)
+        Decision::Applies(action)
     }
 }

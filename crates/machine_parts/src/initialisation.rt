@@ -5,7 +5,7 @@ ghost use Rattle.jvms_machine.specs.Decisions.{TurnDecision};
 ghost use Rattle.jvms_machine.specs.Initialisation.{begin_decision, asking};
 ghost use Rattle.jvms_machine.specs.State.{Thread as SeenThread};
 ghost use Rattle.machine_parts.specs.Before.{first_or};
-ghost use Rattle.machine_parts.specs.Decided.{seen};
+ghost use Rattle.machine_parts.specs.Decided.{decision_value};
 
 use crate::decision::{Decided, never_seen};
 use crate::parts::Parts;
@@ -26,9 +26,10 @@ impl<'p> Parts<'p> {
 
     /// Fast path of `asking`: reports that a turn which requires the initialisation of a class continues.
     #[inline(always)]
-    pub fn goes_on(&self, t: ThreadId, class: ClassNumber) -> bool
-        ensures { (thread : SeenThread) (go_on : TurnDecision) → IsTrue result
-            → asking self.now.program self.now.limits self.now.state t thread class go_on ≡ go_on }
+    pub fn is_initialised_for(&self, t: ThreadId, class: ClassNumber) -> bool
+        ensures { (thread : SeenThread) (continued : TurnDecision) → IsTrue result
+            → asking self.now.program self.now.limits self.now.state t thread class continued
+            ≡ continued }
     {
         match self.initialisation(class) {
             Some(Initialisation::Done) => true,
@@ -40,7 +41,8 @@ impl<'p> Parts<'p> {
     /// Decides the start of a class's initialisation. Throws if there is no room for the strings of its constants, or
     /// for its frame.
     fn begin_decision(&self, thread: &Thread, class: ClassNumber) -> Decided<'p>
-        ensures { seen result ≡ begin_decision self.now.limits self.now.state thread.now class
+        ensures { decision_value result
+            ≡ begin_decision self.now.limits self.now.state thread.now class
             (slice_get self.now.program class) }
     {
         let Some(c) = self.program().class(class) else {
@@ -52,14 +54,14 @@ impl<'p> Parts<'p> {
         if self.limits.frames as usize <= thread.height() {
             return self.throws(thread, Thrown::StackOverflowError);
         }
-        Decision::Makes(Action::Begins { class })
+        Decision::Applies(Action::Begins { class })
     }
 
     /// Decides a turn that requires the initialisation of a class. Returns `None` if the turn continues, else the
     /// decision instead of it.
     pub fn asking(&self, t: ThreadId, thread: &Thread, class: ClassNumber) -> Option<Decided<'p>>
-        ensures { (go_on : TurnDecision) → first_or go_on result
-            ≡ asking self.now.program self.now.limits self.now.state t thread.now class go_on }
+        ensures { (continued : TurnDecision) → first_or continued result
+            ≡ asking self.now.program self.now.limits self.now.state t thread.now class continued }
     {
         match self.initialisation(class) {
             None => Some(never_seen()),
@@ -72,7 +74,7 @@ impl<'p> Parts<'p> {
                 if owner == t {
                     return None;
                 }
-                Some(Decision::Unmade(Outcome::Blocked {
+                Some(Decision::Stays(Outcome::Blocked {
                     on: BlockedOn::Initialisation { class, owner },
                 }))
             }

@@ -8,7 +8,7 @@ ghost use Rattle.jvms_machine.specs.Turn.{CanBeEntered, CanBeLocked};
 ghost use Rattle.jvms_machine.specs.Heap.{class_name_at};
 ghost use Rattle.machine_parts.specs.Machine.{with_state};
 ghost use Rattle.machine_parts.specs.Marks.{listed};
-ghost use Rattle.trace.specs.Recording.{recorded};
+ghost use Rattle.trace.specs.Recording.{with_items};
 
 use crate::marks::push_listed;
 use crate::parts::Parts;
@@ -130,7 +130,7 @@ impl Parts<'_> {
         ensures state { OnOk result (self.new ≡ with_state self.old
             (affected self.old.program self.old.state t [] (effects.Locks monitor))) }
         ensures items { OnOk result (trace.new
-            ≡ recorded trace.old (effect_items self.old.program t (effects.Locks monitor))) }
+            ≡ with_items trace.old (effect_items self.old.program t (effects.Locks monitor))) }
         ensures kept { OnErr result (self.new ≡ self.old) }
         ensures no_items { OnErr result (trace.new ≡ trace.old) }
         ensures none { effect_items self.old.program t (effects.Locks monitor) ≡ [] → IsOk result }
@@ -154,7 +154,7 @@ impl Parts<'_> {
         ensures state { OnOk result (self.new ≡ with_state self.old
             (affected self.old.program self.old.state t [] (effects.Unlocks monitor))) }
         ensures items { OnOk result (trace.new
-            ≡ recorded trace.old (effect_items self.old.program t (effects.Unlocks monitor))) }
+            ≡ with_items trace.old (effect_items self.old.program t (effects.Unlocks monitor))) }
         ensures kept { OnErr result (self.new ≡ self.old) }
         ensures no_items { OnErr result (trace.new ≡ trace.old) }
         ensures none { effect_items self.old.program t (effects.Unlocks monitor) ≡ []

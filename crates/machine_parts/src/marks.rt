@@ -3,7 +3,7 @@
 ghost use Rattle.std.specs.Prelude.{◌≡◌, ◌++◌, [], None, IsOk, IfOk, OnOk, OnErr};
 ghost use Rattle.jvms_machine.specs.Actions.{enter_items, exit_items, lock_items, unlock_items};
 ghost use Rattle.machine_parts.specs.Marks.{listed, marked_key};
-ghost use Rattle.trace.specs.Recording.{recorded};
+ghost use Rattle.trace.specs.Recording.{with_items};
 
 use crate::locks::{lock_item, unlock_item};
 use crate::parts::Parts;
@@ -19,7 +19,7 @@ use trace::Recording;
 #[inline(always)]
 #[tactic(auto, using(trace::proofs::Recorded::recorded_none))]
 pub fn push_listed(trace: &mut Recording, item: Option<Item>) -> Result<(), AllocError>
-    ensures ok { OnOk result (trace.new ≡ recorded trace.old (listed item)) }
+    ensures ok { OnOk result (trace.new ≡ with_items trace.old (listed item)) }
     ensures err { OnErr result (trace.new ≡ trace.old) }
     ensures none { listed item ≡ [] → IsOk result }
 {
@@ -37,7 +37,7 @@ fn push_both(
     first: Option<Item>,
     second: Option<Item>,
 ) -> Result<(), AllocError>
-    ensures ok { OnOk result (trace.new ≡ recorded trace.old (listed first ++ listed second)) }
+    ensures ok { OnOk result (trace.new ≡ with_items trace.old (listed first ++ listed second)) }
     ensures err { OnErr result (trace.new ≡ trace.old) }
     ensures none { listed first ++ listed second ≡ [] → IsOk result }
 {
@@ -95,7 +95,7 @@ impl Parts<'_> {
         trace: &mut Recording,
     ) -> Result<(), AllocError>
         ensures ok { OnOk result (trace.new
-            ≡ recorded trace.old (enter_items self.now.program t method ++ lock_items t lock)) }
+            ≡ with_items trace.old (enter_items self.now.program t method ++ lock_items t lock)) }
         ensures err { OnErr result (trace.new ≡ trace.old) }
     {
         if !trace.keeps() {
@@ -115,7 +115,8 @@ impl Parts<'_> {
         trace: &mut Recording,
     ) -> Result<(), AllocError>
         ensures ok { OnOk result (trace.new
-            ≡ recorded trace.old (unlock_items t unlock ++ exit_items self.now.program t method)) }
+            ≡ with_items trace.old
+            (unlock_items t unlock ++ exit_items self.now.program t method)) }
         ensures err { OnErr result (trace.new ≡ trace.old) }
         ensures none { unlock_items t unlock ++ exit_items self.now.program t method ≡ []
             → IsOk result }

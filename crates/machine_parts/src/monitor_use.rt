@@ -9,7 +9,7 @@ ghost use Rattle.jvms_machine.specs.Heap.{class_name_at};
 ghost use Rattle.jvms_machine.specs.Monitors.{entering, entering_held, leaving, class_locking, locking, object_locking, unlocking, fails_to_unlock as fails};
 ghost use Rattle.jvms_machine.specs.State.{class_reference};
 ghost use Rattle.machine_parts.specs.Before.{turn_by_entry, turn_by_exit, turn_by_lock};
-ghost use Rattle.machine_parts.specs.Decided.{seen};
+ghost use Rattle.machine_parts.specs.Decided.{decision_value};
 
 use crate::decision::{Decided, never_seen};
 use crate::parts::Parts;
@@ -64,7 +64,7 @@ impl<'p> Parts<'p> {
                 reference,
                 owner: hold.owner,
             };
-            return Entering::Stops(Decision::Unmade(Outcome::Blocked { on }));
+            return Entering::Stops(Decision::Stays(Outcome::Blocked { on }));
         }
         if hold.count == u32::MAX {
             return Entering::Stops(self.throws(thread, Thrown::OutOfMemoryError));
@@ -120,12 +120,12 @@ impl<'p> Parts<'p> {
         t: ThreadId,
         thread: &Thread,
         class: ClassNumber,
-        held: Option<u32>,
+        existing: Option<u32>,
     ) -> Locking<'p>
         ensures { (make : Locked → TurnDecision) → turn_by_lock make result
-            ≡ class_locking self.now.limits self.now.state t thread.now class held make }
+            ≡ class_locking self.now.limits self.now.state t thread.now class existing make }
     {
-        match held {
+        match existing {
             Some(reference) => self.object_locking(t, thread, reference),
             None => {
                 if self.has_room() {
@@ -191,10 +191,10 @@ impl<'p> Parts<'p> {
 
     /// Returns the decision that the top call fails to leave its monitor, with an `IllegalMonitorStateException`.
     pub fn fails_to_unlock(&self, thread: &Thread, frame: &Frame) -> Decided<'p>
-        ensures { seen result
+        ensures { decision_value result
             ≡ fails self.now.limits self.now.state frame.now.method (drop 1 thread.now.frames) }
     {
-        Decision::Makes(Action::FailsToUnlock {
+        Decision::Applies(Action::FailsToUnlock {
             method: frame.method(),
             exception: self.exception_of(Thrown::IllegalMonitorStateException),
             last: thread.height() <= 1,

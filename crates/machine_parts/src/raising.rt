@@ -4,7 +4,7 @@ ghost use Rattle.std.specs.Prelude.{◌≡◌, IsOk, IsTrue, IfOk, OnOk, OnErr};
 ghost use Rattle.jvms_machine.specs.declared.action.Action.TheVariants as action;
 ghost use Rattle.jvms_machine.specs.Exceptions.{exception_reference};
 ghost use Rattle.jvms_machine.specs.Actions.{with_exception};
-ghost use Rattle.machine_parts.specs.Decided.{is_held};
+ghost use Rattle.machine_parts.specs.Decided.{is_existing};
 ghost use Rattle.machine_parts.specs.Machine.{with_state, after};
 ghost use Rattle.machine_parts.specs.Ready.{HasReference};
 
@@ -24,10 +24,10 @@ impl Parts<'_> {
         ensures state { OnOk result (self.new
             ≡ with_state self.old (with_exception self.old.program self.old.state exception)) }
         ensures kept { OnErr result (self.new ≡ self.old) }
-        ensures none { IsTrue (is_held exception) → IsOk result }
+        ensures none { IsTrue (is_existing exception) → IsOk result }
     {
         match exception {
-            Exception::Held { reference } => Ok(reference),
+            Exception::Existing { reference } => Ok(reference),
             Exception::New(class) => {
                 let reference = self.heap.count() as u32 + 1;
                 let number = thrown_number(self.program(), class);
@@ -43,7 +43,7 @@ impl Parts<'_> {
         requires { HasReference self.old.state }
         ensures state { OnOk result (self.new ≡ after self.old t (action.Raises exception)) }
         ensures kept { OnErr result (self.new ≡ self.old) }
-        ensures none { IsTrue (is_held exception) → IsOk result }
+        ensures none { IsTrue (is_existing exception) → IsOk result }
     {
         let reference = self.throw(exception)?;
         if let Some(thread) = self.threads.get_mut(t as usize) {
@@ -58,7 +58,7 @@ impl Parts<'_> {
         requires { HasReference self.old.state }
         ensures state { OnOk result (self.new ≡ after self.old t (action.Fails exception)) }
         ensures kept { OnErr result (self.new ≡ self.old) }
-        ensures none { IsTrue (is_held exception) → IsOk result }
+        ensures none { IsTrue (is_existing exception) → IsOk result }
     {
         let reference = self.throw(exception)?;
         if let Some(thread) = self.threads.get_mut(t as usize) {

@@ -5,7 +5,7 @@ ghost use Rattle.jvms_machine.specs.declared.action.Effect.TheVariants as effect
 ghost use Rattle.jvms_machine.specs.declared.trace.Item.TheVariants as item;
 ghost use Rattle.jvms_machine.specs.Actions.{affected, with_retaken, with_waiter};
 ghost use Rattle.machine_parts.specs.Machine.{with_state};
-ghost use Rattle.trace.specs.Recording.{recorded};
+ghost use Rattle.trace.specs.Recording.{with_items};
 
 use crate::parts::Parts;
 use jvms_machine::machine::ThreadId;
@@ -27,7 +27,7 @@ impl Parts<'_> {
         ensures state { OnOk result
             (self.new ≡ with_state self.old (with_waiter self.old.state t reference)) }
         ensures items { OnOk result
-            (trace.new ≡ recorded trace.old (item.Release t reference ∷ [])) }
+            (trace.new ≡ with_items trace.old (item.Release t reference ∷ [])) }
         ensures kept { OnErr result (self.new ≡ self.old) }
         ensures no_items { OnErr result (trace.new ≡ trace.old) }
     {
@@ -57,7 +57,7 @@ impl Parts<'_> {
         ensures state { OnOk result
             (self.new ≡ with_state self.old (with_retaken self.old.state t wait)) }
         ensures items { OnOk result
-            (trace.new ≡ recorded trace.old (item.Acquire t wait.reference ∷ [])) }
+            (trace.new ≡ with_items trace.old (item.Acquire t wait.reference ∷ [])) }
         ensures kept { OnErr result (self.new ≡ self.old) }
         ensures no_items { OnErr result (trace.new ≡ trace.old) }
     {

@@ -2,7 +2,7 @@
 use Rattle.std.specs.Prelude.{ℕ, ◌/◌, ◌%◌, List, [], ◌∷◌, ◌++◌, codes, length, Option, Some, None, slice_get, unwrap_or}
 use Rattle.std.specs.Fmt.{decimal}
 use Rattle.std.specs.List.{enumerate_from, filter, flat_map}
-use Rattle.escapes.specs.Escapes.{hexadecimal, spelled}
+use Rattle.escapes.specs.Escapes.{hexadecimal, name_text}
 use Rattle.escapes.specs.Keys.{field_text}
 use Rattle.jvms_machine.specs.declared.state.Hold.{Hold}
 use Rattle.jvms_machine.specs.declared.state.Initialisation.{Initialisation}
@@ -33,11 +33,11 @@ element_line e = codes "[" ++ decimal e.0 ++ codes "] = " ++ value_text e.1 ++ c
 -- Returns the lines of an object, after its reference and a space. An instance has a line for each field, those of
 -- superclasses first, and an array has one for each element.
 abbrev pub object_lines : Object → List ℕ
-object_lines (instance class fields) = spelled class ++ codes "\n" ++ flat_map (field_line fields) (keys fields)
+object_lines (instance class fields) = name_text class ++ codes "\n" ++ flat_map (field_line fields) (keys fields)
 object_lines (array class elements) =
-    spelled class ++ codes " " ++ decimal (length elements) ++ codes "\n" ++ flat_map element_line (enumerate_from 0 elements)
-object_lines (text units) = codes "text \"" ++ spelled units ++ codes "\"\n"
-object_lines (class_object name) = codes "class " ++ spelled name ++ codes "\n"
+    name_text class ++ codes " " ++ decimal (length elements) ++ codes "\n" ++ flat_map element_line (enumerate_from 0 elements)
+object_lines (text units) = codes "text \"" ++ name_text units ++ codes "\"\n"
+object_lines (class_object name) = codes "class " ++ name_text name ++ codes "\n"
 
 -- Returns the line `owned by T count N` of a held monitor.
 abbrev pub hold_line : Option Hold → List ℕ
@@ -73,7 +73,7 @@ initialisation_text initialisation.Erroneous = codes " erroneous"
 abbrev pub class_lines : Machine → ℕ → Option Class → List ℕ
 class_lines m c None = []
 class_lines m c (Some class) =
-    codes "class " ++ spelled class.name ++ initialisation_text (unwrap_or (slice_get m.state.initialisations c) initialisation.NotBegun) ++ codes "\n"
+    codes "class " ++ name_text class.name ++ initialisation_text (unwrap_or (slice_get m.state.initialisations c) initialisation.NotBegun) ++ codes "\n"
     ++ flat_map (λ f. field_line m.state.statics (field_key class f)) (filter (λ f. f.is_static) class.fields)
 
 -- Returns the text of the class of a number, with each static field that it declares.

@@ -3,7 +3,7 @@
 ghost use Rattle.std.specs.Prelude.{◌≡◌, ◌++◌, IfOk, OnOk};
 ghost use Rattle.std.specs.String.{string_bytes};
 ghost use Rattle.jvms_machine.specs.declared.state.StackFrame.TheVariants as stack_frame;
-ghost use Rattle.machine.specs.Views.{frame_at, shown};
+ghost use Rattle.machine.specs.Views.{frame_at, frame_of};
 ghost use Rattle.machine_text.specs.Parts.{if_there};
 ghost use Rattle.machine_text.specs.Threads.{frame_line, frame_text, frames_text};
 
@@ -22,7 +22,7 @@ pub(crate) fn put_frame(
     frame: &FrameView,
 ) -> Result<(), AllocError>
     ensures { OnOk result (string_bytes out.new ≡ string_bytes out.old
-        ++ frame_text program.now (shown frame.now)) }
+        ++ frame_text program.now (frame_of frame.now)) }
 {
     match frame {
         FrameView::Call(call) => put_place(out, program, call.method(), call.place()),
@@ -46,7 +46,7 @@ fn put_call(out: &mut String, program: &Program, call: &Frame) -> Result<(), All
 /// Appends the line of a frame.
 fn put_frame_line(out: &mut String, program: &Program, frame: &FrameView) -> Result<(), AllocError>
     ensures { OnOk result (string_bytes out.new ≡ string_bytes out.old
-        ++ frame_line program.now (shown frame.now)) }
+        ++ frame_line program.now (frame_of frame.now)) }
 {
     match frame {
         FrameView::Call(call) => put_call(out, program, call),

@@ -1,7 +1,7 @@
 //! Decodes a text from its bytes.
 
 ghost use Rattle.std.specs.Prelude.{◌≡◌, ◌≤◌, ◌<◌, ℕ, List, Ok, option_map, IfOk, IfErr};
-ghost use Rattle.jvms_file.specs.Texts.{Codes, is_continuation, after_lead_of_two, after_lead_of_three, unit_at, decoded};
+ghost use Rattle.jvms_file.specs.Texts.{Codes, is_continuation, after_lead_of_two, after_lead_of_three, unit_at, text_of_bytes};
 ghost use Rattle.mutf8.specs.Reading.{Gives, Places};
 
 use crate::Units;
@@ -9,7 +9,7 @@ use crate::fault::Fault;
 use std::alloc::Global;
 
 /// Decides whether a byte may follow the first byte of a unit.
-fn is_behind_lead(byte: u8) -> bool
+fn is_continuation(byte: u8) -> bool
     ensures { result ≡ is_continuation byte }
 {
     0x80 <= byte && byte < 0xc0
@@ -24,7 +24,7 @@ fn unit_of_two(lead: u8, rest: &[u8]) -> Option<(u16, &[u8])>
     let [second, behind @ ..] = rest else {
         return None;
     };
-    if !is_behind_lead(*second) {
+    if !is_continuation(*second) {
         return None;
     }
     let unit = u16::from(lead - 0xc0) * 0x40 + u16::from(*second - 0x80);
@@ -44,7 +44,7 @@ fn unit_of_three(lead: u8, rest: &[u8]) -> Option<(u16, &[u8])>
     let [second, third, behind @ ..] = rest else {
         return None;
     };
-    if !is_behind_lead(*second) || !is_behind_lead(*third) {
+    if !is_continuation(*second) || !is_continuation(*third) {
         return None;
     }
     let high = u16::from(lead - 0xe0) * 0x40 + u16::from(*second - 0x80);
@@ -74,7 +74,7 @@ fn front_unit(bytes: &[u8]) -> Option<(u16, &[u8])>
 
 /// Decodes units up to the end of the bytes, or up to the first byte at which none begins.
 fn all_units(alloc: Global, bytes: &[u8]) -> Result<Units, Fault>
-    ensures { Gives result (decoded bytes.now) }
+    ensures { Gives result (text_of_bytes bytes.now) }
 {
     let mut units = Units::new(alloc);
     let mut rest = bytes;
@@ -93,7 +93,7 @@ fn all_units(alloc: Global, bytes: &[u8]) -> Result<Units, Fault>
 /// Decodes a text from its bytes, or reports the first byte at which no unit begins.
 pub fn decode(alloc: Global, bytes: &[u8]) -> Result<Units, Fault>
     // The text, or the first place where the bytes are wrong.
-    ensures exact { Gives result (decoded bytes.now) }
+    ensures exact { Gives result (text_of_bytes bytes.now) }
     // A text that is returned is spelled by the bytes.
     ensures found { IfOk result (λ us. Codes bytes.now us) }
     // A text that the bytes spell is returned, unless memory runs out.

@@ -1,7 +1,7 @@
 //! Encodes a text as bytes.
 
 ghost use Rattle.std.specs.Prelude.{◌≡◌, ◌++◌, OnOk, IfOk};
-ghost use Rattle.jvms_file.specs.Texts.{unit_bytes, encoded};
+ghost use Rattle.jvms_file.specs.Texts.{unit_bytes, bytes_of_text};
 
 use std::alloc::{AllocError, Global};
 
@@ -24,9 +24,9 @@ fn push_unit(bytes: &mut Vec<u8>, unit: u16) -> Result<(), AllocError>
 }
 
 /// Encodes a text as bytes. Any units have bytes, so it fails only without memory.
-#[tactic(auto, unfolding(jvms_file::specs::Texts::encoded))]
+#[tactic(auto, unfolding(jvms_file::specs::Texts::bytes_of_text))]
 pub fn encode(alloc: Global, units: &[u16]) -> Result<Vec<u8>, AllocError>
-    ensures { IfOk result (λ v. v.items ≡ encoded units.now) }
+    ensures { IfOk result (λ v. v.items ≡ bytes_of_text units.now) }
 {
     let mut bytes = Vec::new(alloc);
     for unit in units {

@@ -4,7 +4,7 @@
 use Rattle.std.specs.Prelude.{ℕ, List, [], ◌++◌, Option, Some, None, codes, if◌then◌else◌}
 use Rattle.std.specs.Fmt.{decimal}
 use Rattle.std.specs.List.{enumerate_from, flat_map}
-use Rattle.escapes.specs.Escapes.{spelled}
+use Rattle.escapes.specs.Escapes.{name_text}
 use Rattle.escapes.specs.Keys.{member_text, method_text}
 use Rattle.jvms_file.specs.declared.class_file.ClassFile.{ClassFile}
 use Rattle.jvms_program.specs.declared.key.MethodKey.{MethodKey}
@@ -39,9 +39,9 @@ lack_text lack.OutOfProfile = codes "OutOfProfile"
 -- Returns what is named, after a space: the class if it is missing, else the member, if there is one.
 abbrev pub named_text : Lack → Option (List ℕ) → Option (List ℕ × List ℕ) → List ℕ
 named_text lack None member = []
-named_text lack (Some class) None = codes " " ++ spelled class
+named_text lack (Some class) None = codes " " ++ name_text class
 named_text lack (Some class) (Some member) =
-    codes " " ++ (if is_absence lack then spelled class else member_text class member.0 member.1)
+    codes " " ++ (if is_absence lack then name_text class else member_text class member.0 member.1)
 
 abbrev pub hint_text : Lack → Option (List ℕ) → Option (List ℕ × List ℕ) → List ℕ
 hint_text lack None member = unnamed_hint lack

@@ -4,7 +4,7 @@
 use Rattle.std.specs.Prelude.{ℕ, List, [], ◌∷◌, ◌++◌, None, Some, codes, if◌then◌else◌, is_some, map}
 use Rattle.std.specs.List.{flat_map}
 use Rattle.std.specs.Option.{option_to_list}
-use Rattle.escapes.specs.Escapes.{spelled}
+use Rattle.escapes.specs.Escapes.{name_text}
 use Rattle.jvms_file.specs.declared.class_file.ClassFile.{ClassFile}
 use Rattle.jvms_program.specs.declared.program.Class.{Class}
 use Rattle.jvms_program.specs.declared.thrown.Thrown.TheVariants as thrown
@@ -17,7 +17,7 @@ use Rattle.needs.specs.Lines.{reason_of}
 -- Returns `C NoClassDefFoundError D`, with a hint why a compiler may have put D there.
 abbrev pub super_line : List ℕ → List ℕ → List ℕ
 super_line class name =
-    spelled class ++ codes " " ++ reason_of (lack.Unresolved thrown.NoClassDefFoundError) (Some name) None ++ codes "\n"
+    name_text class ++ codes " " ++ reason_of (lack.Unresolved thrown.NoClassDefFoundError) (Some name) None ++ codes "\n"
 
 -- Returns the line of a superclass or superinterface of this name, if it is missing.
 abbrev pub line_of_super : List Class → List ℕ → List ℕ → List ℕ

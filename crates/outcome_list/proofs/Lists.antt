@@ -10,8 +10,8 @@ use Rattle.jvms_machine.specs.declared.machine.BadCause.TheVariants as bad_cause
 use Rattle.outcome_list.specs.declared.kind.Kind.{Kind}
 use Rattle.outcome_list.specs.declared.kind.Kind.TheVariants as kind
 use Rattle.outcome_list.specs.Kinds.{kind_of}
-use Rattle.outcome_list.specs.Names.{Names, no_names, followed, names_in}
-use Rattle.outcome_list.specs.Held.{Fit, first, threads_of, references_of, classes_of, outcome_by, names_behind, outcomes_by}
+use Rattle.outcome_list.specs.Names.{Names, no_names, append_names, names_in}
+use Rattle.outcome_list.specs.Stored.{Fit, first, threads_of, references_of, classes_of, outcome_by, names_after, outcomes_by}
 
 -- An outcome is determined by its kind and its names.
 told_whole : (o : Outcome) → outcome_by (kind_of o) (names_in o) ≡ o
@@ -48,7 +48,7 @@ one_fits (outcome.Bad bad_cause.Kind) = record { threads = refl; references = re
 one_fits (outcome.Bad bad_cause.Local) = record { threads = refl; references = refl; classes = refl }
 
 -- The names fit after one more outcome.
-pub more_fit : (kinds : List Kind) (names : Names) (o : Outcome) → Fit kinds names → Fit (kinds ++ kind_of o ∷ []) (followed names (names_in o))
+pub more_fit : (kinds : List Kind) (names : Names) (o : Outcome) → Fit kinds names → Fit (kinds ++ kind_of o ∷ []) (append_names names (names_in o))
 more_fit kinds names o fit =
     let own = one_fits o in
     record {
@@ -79,7 +79,7 @@ enough k kinds names fit =
 less : (whole first rest : ℕ) → whole ≡ first + rest → whole - first ≡ rest
 less whole first rest is = omega arith
 
-behind_fits : (k : Kind) (kinds : List Kind) (names : Names) → Fit (k ∷ kinds) names → Fit kinds (names_behind k names)
+behind_fits : (k : Kind) (kinds : List Kind) (names : Names) → Fit (k ∷ kinds) names → Fit kinds (names_after k names)
 behind_fits k kinds names fit =
     let t = fit.threads ∙ sum_by-cons threads_of k kinds in
     let r = fit.references ∙ sum_by-cons references_of k kinds in
@@ -90,7 +90,7 @@ behind_fits k kinds names fit =
       classes = length-drop (classes_of k) names.classes ∙ less _ _ _ c;
     }
 
-told_before : (k : Kind) (names others : Names) → Enough k names → outcome_by k (followed names others) ≡ outcome_by k names
+told_before : (k : Kind) (names others : Names) → Enough k names → outcome_by k (append_names names others) ≡ outcome_by k names
 told_before kind.Ran names others is = refl
 told_before kind.Raised names others is = refl
 told_before kind.Last names others is = refl
@@ -108,7 +108,7 @@ told_before kind.Initialisation names others is =
 told_before kind.Join names others is = rw (first_before names.threads others.threads is.threads) refl
 told_before kind.Wait names others is = rw (first_before names.references others.references is.references) refl
 
-behind_before : (k : Kind) (names others : Names) → Enough k names → names_behind k (followed names others) ≡ followed (names_behind k names) others
+behind_before : (k : Kind) (names others : Names) → Enough k names → names_after k (append_names names others) ≡ append_names (names_after k names) others
 behind_before k names others is =
     rw (drop-append-le (threads_of k) names.threads others.threads is.threads, drop-append-le (references_of k) names.references others.references is.references, drop-append-le (classes_of k) names.classes others.classes is.classes)
     refl
@@ -118,27 +118,27 @@ none_left : (names : Names) → Fit [] names → names ≡ no_names
 none_left names fit =
     rw (nil_from_length names.threads fit.threads, nil_from_length names.references fit.references, nil_from_length names.classes fit.classes) refl
 
-none_before : (names : Names) → followed no_names names ≡ names
+none_before : (names : Names) → append_names no_names names ≡ names
 none_before names = refl
 
 -- One more outcome after those of the list.
-pub one_more : (kinds : List Kind) (names : Names) (o : Outcome) → Fit kinds names → outcomes_by (kinds ++ kind_of o ∷ []) (followed names (names_in o)) ≡ outcomes_by kinds names ++ o ∷ []
+pub one_more : (kinds : List Kind) (names : Names) (o : Outcome) → Fit kinds names → outcomes_by (kinds ++ kind_of o ∷ []) (append_names names (names_in o)) ≡ outcomes_by kinds names ++ o ∷ []
 one_more [] names o fit =
-    ap (λ (n : Names). outcome_by (kind_of o) (followed n (names_in o)) ∷ []) (none_left names fit) ∙ ap (λ x. x ∷ []) (told_whole o)
+    ap (λ (n : Names). outcome_by (kind_of o) (append_names n (names_in o)) ∷ []) (none_left names fit) ∙ ap (λ x. x ∷ []) (told_whole o)
 one_more (k ∷ kinds) names o fit =
     let is = enough k kinds names fit in
-    ap (λ x. x ∷ outcomes_by (kinds ++ kind_of o ∷ []) (names_behind k (followed names (names_in o)))) (told_before k names (names_in o) is)
+    ap (λ x. x ∷ outcomes_by (kinds ++ kind_of o ∷ []) (names_after k (append_names names (names_in o)))) (told_before k names (names_in o) is)
     ∙ ap (λ n. outcome_by k names ∷ outcomes_by (kinds ++ kind_of o ∷ []) n) (behind_before k names (names_in o) is)
-    ∙ ap (λ l. outcome_by k names ∷ l) (one_more kinds (names_behind k names) o (behind_fits k kinds names fit))
+    ∙ ap (λ l. outcome_by k names ∷ l) (one_more kinds (names_after k names) o (behind_fits k kinds names fit))
 
 -- There are as many outcomes as kinds.
 pub as_many : (kinds : List Kind) (names : Names) → length (outcomes_by kinds names) ≡ length kinds
 as_many [] names = refl
-as_many (k ∷ kinds) names = ap suc (as_many kinds (names_behind k names))
+as_many (k ∷ kinds) names = ap suc (as_many kinds (names_after k names))
 
 -- ---- Turns that ran, which have no names
 
-none_behind : (names : Names) → followed names no_names ≡ names
+none_behind : (names : Names) → append_names names no_names ≡ names
 none_behind names = rw (append-nil names.threads, append-nil names.references, append-nil names.classes) refl
 
 one_ran : (kinds : List Kind) (names : Names) → Fit kinds names → Fit (kinds ++ kind.Ran ∷ []) names

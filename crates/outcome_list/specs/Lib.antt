@@ -1,3 +1,3 @@
-pub mod Held
 pub mod Kinds
 pub mod Names
+pub mod Stored

@@ -14,8 +14,8 @@ abbrev pub no_names : Names
 no_names = record { threads = []; references = []; classes = [] }
 
 -- Appends other names to names.
-abbrev pub followed : Names → Names → Names
-followed names others =
+abbrev pub append_names : Names → Names → Names
+append_names names others =
     record {
       threads = names.threads ++ others.threads;
       references = names.references ++ others.references;

@@ -19,11 +19,11 @@ pub struct OutcomeList {
 
 impl Model for OutcomeList {
     ghost use Rattle.std.specs.Prelude.{List};
-    ghost use Rattle.jvms_machine.specs.declared.machine.Outcome.{Outcome as Told};
+    ghost use Rattle.jvms_machine.specs.declared.machine.Outcome.{Outcome as SeenOutcome};
 
-    ghost Value = { List Told };
+    ghost Value = { List SeenOutcome };
 
-    ghost use Rattle.outcome_list.specs.Held.{Fit, outcomes_by};
+    ghost use Rattle.outcome_list.specs.Stored.{Fit, outcomes_by};
 
     ghost view = { λ l. outcomes_by l.kinds.items l.names };
 

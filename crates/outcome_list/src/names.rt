@@ -1,8 +1,8 @@
 //! The names in outcomes, in the order of the outcomes.
 
 ghost use Rattle.std.specs.Prelude.{◌≡◌, drop, OnOk, OnErr};
-ghost use Rattle.outcome_list.specs.Names.{no_names, followed, names_in, names_of};
-ghost use Rattle.outcome_list.specs.Held.{first, outcome_by, names_behind};
+ghost use Rattle.outcome_list.specs.Names.{no_names, append_names, names_in, names_of};
+ghost use Rattle.outcome_list.specs.Stored.{first, outcome_by, names_after};
 
 use crate::kind::Kind;
 use jvms_machine::machine::{BadCause, BlockedOn, Outcome, ThreadId};
@@ -43,7 +43,7 @@ impl Names {
 
     /// Appends the names in what a blocked thread waits for. If there is no memory, nothing changes.
     fn push_blocked(&mut self, on: BlockedOn) -> Result<(), AllocError>
-        ensures ok { OnOk result (self.new ≡ followed self.old (names_of on)) }
+        ensures ok { OnOk result (self.new ≡ append_names self.old (names_of on)) }
         ensures err { OnErr result (self.new ≡ self.old) }
     {
         self.threads.reserve(1)?;
@@ -64,7 +64,7 @@ impl Names {
 
     /// Appends the names in an outcome. If there is no memory, nothing changes.
     pub(crate) fn push(&mut self, outcome: Outcome) -> Result<(), AllocError>
-        ensures ok { OnOk result (self.new ≡ followed self.old (names_in outcome)) }
+        ensures ok { OnOk result (self.new ≡ append_names self.old (names_in outcome)) }
         ensures err { OnErr result (self.new ≡ self.old) }
     {
         match outcome {
@@ -152,7 +152,7 @@ impl<'n> NamesLeft<'n> {
     /// Returns the outcome of a kind with the next of these names, which it removes.
     pub(crate) fn next_outcome(&mut self, kind: Kind) -> Outcome
         ensures outcome { result ≡ outcome_by kind self.old }
-        ensures left { self.new ≡ names_behind kind self.old }
+        ensures left { self.new ≡ names_after kind self.old }
     {
         match kind {
             Kind::Ran => Outcome::Ran,

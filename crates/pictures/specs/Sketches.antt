@@ -3,7 +3,7 @@ use Rattle.std.specs.Prelude.{◌≡◌, ℕ, ◌+◌, List, [], length, map, ta
 use Rattle.velodrome.specs.declared.verdict.ConflictingPair.{ConflictingPair}
 use Rattle.velodrome.specs.declared.verdict.Verdict.{Verdict}
 use Rattle.velodrome.specs.declared.verdict.Verdict.TheVariants as verdict
-use Rattle.atom_graph.specs.Checking.{Fed, walk_of}
+use Rattle.atom_graph.specs.Checking.{Fed, state_of_fed}
 use Rattle.pictures.specs.declared.rows.Row.{Row}
 use Rattle.pictures.specs.declared.sketches.Sketch.{Sketch}
 use Rattle.pictures.specs.Rows.{chosen_rows, rows_from}
@@ -29,7 +29,7 @@ cycle_length (verdict.Cycle first_at transactions pairs) = length transactions
 
 -- Returns all events of a trace as rows.
 abbrev pub all_rows : Fed → List Row
-all_rows fed = rows_from 1 0 fed.items (map (λ e. e.transaction) (walk_of fed).events)
+all_rows fed = rows_from 1 0 fed.items (map (λ e. e.transaction) (state_of_fed fed).events)
 
 -- The sketch has the events of the trace that are shown, and the cycle of the verdict.
 pub record IsSketch (fed : Fed) (v : Verdict) (s : Sketch) : Type 0 where

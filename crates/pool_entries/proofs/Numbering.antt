@@ -9,7 +9,7 @@ use Rattle.const_pool.specs.declared.entry.Entry.{Entry}
 use Rattle.const_pool.specs.declared.entry.Entry.TheVariants as entry
 use Rattle.const_pool.specs.declared.builder.PoolFault.{PoolFault}
 use Rattle.const_pool.specs.declared.builder.PoolFault.TheVariants as pool_fault
-use Rattle.const_pool.specs.Interning.{constant_of, constants_of, pool_of, is_same, width, taken, number_from, interned, Interns}
+use Rattle.const_pool.specs.Interning.{constant_of, constants_of, pool_of, is_same, width, total_width, number_from, intern, Interns}
 use Rattle.const_pool.proofs.Interned.{length-pool_of}
 use Rattle.pool_entries.specs.declared.fault.EntryFault.{EntryFault}
 use Rattle.pool_entries.specs.declared.fault.EntryFault.TheVariants as fault
@@ -68,18 +68,18 @@ length-numbers_of e =
 pool_of-push : (es : List Entry) (e : Entry) → pool_of es ++ numbers_of (constant_of e) ≡ pool_of (es ++ e ∷ [])
 pool_of-push es e = sym (flat_map-append constants_of es (e ∷ []) ∙ ap (λ cs. pool_of es ++ cs) (append-nil (constants_of e)))
 
-same_by : (es : List Entry) (e : Entry) (r : Option ℕ) → r ≡ number_from 1 es e → constant_entry (pool_of es) (constant_of e) ≡ in_pool (interned es e)
-unfolding constant_entry interned
+same_by : (es : List Entry) (e : Entry) (r : Option ℕ) → r ≡ number_from 1 es e → constant_entry (pool_of es) (constant_of e) ≡ in_pool (intern es e)
+unfolding constant_entry intern
 same_by es e (Some n) is = rw (same_number 1 es e, ← is) refl
 same_by es e None is =
     rw (same_number 1 es e, ← is, length-pool_of es, length-numbers_of e, pool_of-push es e)
-    (elim (nat_le (taken es + width e) 65534) as (λ fits. cond fits (Ok (taken es + 1, pool_of (es ++ e ∷ []))) (Err fault.PoolFull) ≡ in_pool (cond fits (Ok (taken es + 1, es ++ e ∷ [])) (Err pool_fault.PoolFull))) [ true ↦ refl | false ↦ refl ])
+    (elim (nat_le (total_width es + width e) 65534) as (λ fits. cond fits (Ok (total_width es + 1, pool_of (es ++ e ∷ []))) (Err fault.PoolFull) ≡ in_pool (cond fits (Ok (total_width es + 1, es ++ e ∷ [])) (Err pool_fault.PoolFull))) [ true ↦ refl | false ↦ refl ])
 
 -- The entry that is interned is the pool's.
-pub constant_entry-pool_of : (es : List Entry) (e : Entry) → constant_entry (pool_of es) (constant_of e) ≡ in_pool (interned es e)
+pub constant_entry-pool_of : (es : List Entry) (e : Entry) → constant_entry (pool_of es) (constant_of e) ≡ in_pool (intern es e)
 constant_entry-pool_of es e = same_by es e (number_from 1 es e) refl
 
-pub gives_interned : (es new : List Entry) (e : Entry) (n : ℕ) → interned es e ≡ Ok (n, new) → constant_entry (pool_of es) (constant_of e) ≡ Ok (n, pool_of new)
+pub gives_interned : (es new : List Entry) (e : Entry) (n : ℕ) → intern es e ≡ Ok (n, new) → constant_entry (pool_of es) (constant_of e) ≡ Ok (n, pool_of new)
 gives_interned es new e n is = constant_entry-pool_of es e ∙ ap in_pool is
 
 pub gives_fault : (es new : List Entry) (e : Entry) (f : PoolFault) (pool : List Constant) → Interns es e (Err f) new → Gives (constant_entry (pool_of es) (constant_of e)) (Err (fault_of f)) pool
@@ -100,23 +100,23 @@ holds_in : (Constant → Type 0) → Result (ℕ × List Entry) PoolFault → Ty
 holds_in P (Ok (n, new)) = AllByRecursion P (pool_of new)
 holds_in P (Err f) = Unit {0}
 
-holds_by : (P : Constant → Type 0) (es : List Entry) (e : Entry) (r : Option ℕ) → r ≡ number_from 1 es e → P constant.Unusable → P (constant_of e) → AllByRecursion P (pool_of es) → holds_in P (interned es e)
-unfolding interned holds_in
+holds_by : (P : Constant → Type 0) (es : List Entry) (e : Entry) (r : Option ℕ) → r ≡ number_from 1 es e → P constant.Unusable → P (constant_of e) → AllByRecursion P (pool_of es) → holds_in P (intern es e)
+unfolding intern holds_in
 holds_by P es e (Some n) is unusable new are = rw (← is) are
 holds_by P es e None is unusable new are =
     rw (← is)
-    (elim (nat_le (taken es + width e) 65534) as (λ fits. holds_in P (cond fits (Ok (taken es + 1, es ++ e ∷ [])) (Err pool_fault.PoolFull))) [
+    (elim (nat_le (total_width es + width e) 65534) as (λ fits. holds_in P (cond fits (Ok (total_width es + 1, es ++ e ∷ [])) (Err pool_fault.PoolFull))) [
       | true ↦ subst (AllByRecursion P) (pool_of-push es e) (holds_push P (pool_of es) (numbers_of (constant_of e)) are (holds_numbers P (constant_of e) unusable new))
       | false ↦ tt
     ])
 
-holds_on : (P : Constant → Type 0) (es new : List Entry) (e : Entry) (n : ℕ) → P constant.Unusable → P (constant_of e) → AllByRecursion P (pool_of es) → interned es e ≡ Ok (n, new) → AllByRecursion P (pool_of new)
+holds_on : (P : Constant → Type 0) (es new : List Entry) (e : Entry) (n : ℕ) → P constant.Unusable → P (constant_of e) → AllByRecursion P (pool_of es) → intern es e ≡ Ok (n, new) → AllByRecursion P (pool_of new)
 unfolding holds_in
 holds_on P es new e n unusable one are is = subst (holds_in P) is (holds_by P es e (number_from 1 es e) refl unusable one are)
 
 -- Texts stay short, and their units stay within 16 bits.
-pub stays_short : (es new : List Entry) (e : Entry) (n : ℕ) → IsShort (constant_of e) → AreShort (pool_of es) → interned es e ≡ Ok (n, new) → AreShort (pool_of new)
+pub stays_short : (es new : List Entry) (e : Entry) (n : ℕ) → IsShort (constant_of e) → AreShort (pool_of es) → intern es e ≡ Ok (n, new) → AreShort (pool_of new)
 stays_short es new e n short are is = holds_on IsShort es new e n tt short are is
 
-pub stays_proper : (es new : List Entry) (e : Entry) (n : ℕ) → IsProper (constant_of e) → AreProper (pool_of es) → interned es e ≡ Ok (n, new) → AreProper (pool_of new)
+pub stays_proper : (es new : List Entry) (e : Entry) (n : ℕ) → IsProper (constant_of e) → AreProper (pool_of es) → intern es e ≡ Ok (n, new) → AreProper (pool_of new)
 stays_proper es new e n proper are is = holds_on IsProper es new e n tt proper are is

@@ -8,7 +8,7 @@ use Rattle.jvms_file.specs.declared.class_file.Constant.TheVariants as constant
 use Rattle.jvms_file.specs.ConstantPool.{takes_two}
 use Rattle.jvms_file.specs.Names.{same_text}
 use Rattle.jvms_file.specs.Results.{◌>>=◌, want}
-use Rattle.jvms_file.specs.Texts.{encoded, IsText}
+use Rattle.jvms_file.specs.Texts.{bytes_of_text, IsText}
 use Rattle.pool_entries.specs.declared.fault.EntryFault.{EntryFault}
 use Rattle.pool_entries.specs.declared.fault.EntryFault.TheVariants as fault
 use Rattle.pool_entries.specs.declared.kind.MethodKind.{MethodKind}
@@ -53,7 +53,7 @@ constant_entry pool c = found_or_appended (number_from 1 pool c)
 
 -- Decides whether a text has at most 65535 bytes, so that two bytes count them (JVMS 4.4.7).
 abbrev pub is_short : List ℕ → Bool
-is_short units = nat_le (length (encoded units)) 65535
+is_short units = nat_le (length (bytes_of_text units)) 65535
 
 abbrev pub IsShort : Constant → Type 0
 IsShort (constant.Utf8 units) = IsTrue (is_short units)

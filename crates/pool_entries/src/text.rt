@@ -19,7 +19,7 @@ fn byte_count(unit: u16) -> usize
 }
 
 /// Decides whether a text has at most 65535 bytes, without encoding it.
-#[tactic(auto, unfolding(jvms_file::specs::Texts::encoded))]
+#[tactic(auto, unfolding(jvms_file::specs::Texts::bytes_of_text))]
 pub(crate) fn is_short(text: &[u16]) -> bool
     ensures { result ≡ is_short text.now }
 {

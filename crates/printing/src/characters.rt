@@ -27,7 +27,7 @@ fn alone(unit: u16) -> char
 /// Returns the first character of a text of these units, with the units after it.
 fn front_character(first: u16, rest: &[u16]) -> (char, &[u16])
     ensures front { characters (first ∷ rest.now) ≡ result.0 ∷ characters result.1.now }
-    ensures behind { length result.1.now ≤ length rest.now }
+    ensures not_longer { length result.1.now ≤ length rest.now }
 {
     match rest {
         [second, behind @ ..] if is_high(first) && is_low(*second) => {

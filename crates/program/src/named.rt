@@ -50,8 +50,8 @@ impl Program {
         self.by_name.select_from(class, n)
     }
 
-    /// Selects the method for an invokespecial in the class `current` (JVMS 6.5 invokespecial). That is the one of
-    /// the number if it is a constructor, or if its named class is no superclass of `current`. Else it is selected from the
+    /// Selects the method for an invokespecial in the class `current` (JVMS 6.5 invokespecial). That is the one of the
+    /// number if it is a constructor, or if its named class is no superclass of `current`. Else it is selected from the
     /// superclass of `current` on.
     pub fn select_special(
         &self,

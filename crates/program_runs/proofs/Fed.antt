@@ -13,8 +13,8 @@ use Rattle.jvms_machine.specs.Opening.{opening}
 use Rattle.jvms_machine.specs.Run.{run_from}
 use Rattle.jvms_machine.specs.Start.{IsStart, Start}
 use Rattle.velodrome.specs.Specification.{Specification}
-use Rattle.velodrome.specs.Transactions.{is_event, is_matched, walk}
-use Rattle.run_item_laws.proofs.EventCounts.{events_among, events_append, run_begins_with_few_events, walk_counts}
+use Rattle.velodrome.specs.Transactions.{is_event, is_matched, trace_state_of}
+use Rattle.run_item_laws.proofs.EventCounts.{events_among, events_append, run_begins_with_few_events, trace_state_counts}
 use Rattle.run_item_laws.proofs.Runs.{items_are_matched}
 use Rattle.atom_graph.specs.declared.fault.FeedFault.{FeedFault}
 use Rattle.atom_graph.specs.declared.fault.FeedFault.TheVariants as fault
@@ -32,16 +32,16 @@ few_or_mark : (event : Bool) (n : ℕ) → (event ≡ true → n < 100000000) �
 few_or_mark true n below = lt-leb 100000000 n (below refl)
 few_or_mark false n below = refl
 
-no_fault : (lines : Specification) (before : List Item) (i : Item) → is_matched (walk lines before) i ≡ true → (is_event i ≡ true → length (walk lines before).events < 100000000) → fault_of (record { lines = lines; items = before }) i ≡ None
+no_fault : (lines : Specification) (before : List Item) (i : Item) → is_matched (trace_state_of lines before) i ≡ true → (is_event i ≡ true → length (trace_state_of lines before).events < 100000000) → fault_of (record { lines = lines; items = before }) i ≡ None
 no_fault lines before i matched below =
-    let few = few_or_mark (is_event i) (length (walk lines before).events) below in
-    ap (λ b. fault_by b (is_event i && nat_le 100000000 (length (walk lines before).events))) matched ∙ ap (fault_by true) few
+    let few = few_or_mark (is_event i) (length (trace_state_of lines before).events) below in
+    ap (λ b. fault_by b (is_event i && nat_le 100000000 (length (trace_state_of lines before).events))) matched ∙ ap (fault_by true) few
 
 -- An event is one more than the events before it.
-events_before : (lines : Specification) (before : List Item) (i : Item) (most : ℕ) → length (walk lines (before ++ i ∷ [])).events ≤ most → is_event i ≡ true → length (walk lines before).events < most
+events_before : (lines : Specification) (before : List Item) (i : Item) (most : ℕ) → length (trace_state_of lines (before ++ i ∷ [])).events ≤ most → is_event i ≡ true → length (trace_state_of lines before).events < most
 events_before lines before i most few event =
-    let all = walk_counts lines (before ++ i ∷ []) in
-    let first = walk_counts lines before in
+    let all = trace_state_counts lines (before ++ i ∷ []) in
+    let first = trace_state_counts lines before in
     let sum = events_append before (i ∷ []) in
     let one = one_event i event in
     omega arith

@@ -7,7 +7,7 @@ use Rattle.jvms_machine.specs.Start.{IsStart}
 use Rattle.machine.specs.Machine.{Machine}
 use Rattle.machine.specs.Started.{opened}
 use Rattle.velodrome.specs.Specification.{Specification}
-use Rattle.velodrome.specs.Transactions.{walk}
+use Rattle.velodrome.specs.Transactions.{trace_state_of}
 use Rattle.velodrome.specs.Verdicts.{IsVerdict}
 use Rattle.atom_graph.specs.Checking.{Fed, fault_of}
 use Rattle.program_runs.specs.declared.feeding.Judgement.{Judgement}
@@ -15,9 +15,9 @@ use Rattle.program_runs.specs.Shown.{Shown}
 
 -- The judgement is the verdict on the trace's transactions, and the numbers of its events and transactions.
 pub record IsJudgementBy (lines : Specification) (items : List Item) (j : Judgement) : Type 0 where
-  pub verdict : IsVerdict (walk lines items) j.verdict
-  pub events : j.counts.events ≡ length (walk lines items).events
-  pub transactions : j.counts.transactions ≡ (walk lines items).transactions
+  pub verdict : IsVerdict (trace_state_of lines items) j.verdict
+  pub events : j.counts.events ≡ length (trace_state_of lines items).events
+  pub transactions : j.counts.transactions ≡ (trace_state_of lines items).transactions
 
 -- There is a run, and this is the judgement on its items.
 abbrev pub IsJudgementIn : {E : Type 0} → Specification → Result Shown E → Judgement → Type 0

@@ -8,7 +8,7 @@ use Rattle.jvms_machine.specs.declared.machine.Outcome.{Outcome}
 use Rattle.jvms_machine.specs.declared.machine.Status.{Status}
 use Rattle.jvms_machine.specs.declared.trace.Item.{Item}
 use Rattle.jvms_machine.specs.declared.value.Value.{Value}
-use Rattle.jvms_machine.specs.Opening.{StartFault, made}
+use Rattle.jvms_machine.specs.Opening.{StartFault, start_of_entry}
 use Rattle.jvms_machine.specs.Status.{status_of}
 use Rattle.machine.specs.Machine.{Machine}
 use Rattle.machine.specs.Runs.{run_of}
@@ -50,13 +50,13 @@ view_of_run most chooser m = view_of_choices m (choices_from most chooser m)
 -- Returns the run of a program from an entry, if a machine is made for it.
 unfoldable pub view_of_program : ℕ → Chooser → Limits → List Class → Entry → Result Shown StartFault
 view_of_program most chooser limits program entry = do
-  start ← made program limits entry
+  start ← start_of_entry program limits entry
   Ok (view_of_run most chooser (opened program limits start))
 
 -- Returns the chooser after its choices, if a machine is made.
 unfoldable pub program_chooser_left : ℕ → Chooser → Limits → List Class → Entry → Result Chooser StartFault
 program_chooser_left most chooser limits program entry = do
-  start ← made program limits entry
+  start ← start_of_entry program limits entry
   Ok (chooser_after_choices most chooser (opened program limits start))
 
 -- Returns what a traced run shows.

@@ -13,7 +13,7 @@ use Rattle.velodrome.specs.declared.verdict.Verdict.{Verdict}
 use Rattle.velodrome.specs.declared.verdict.Verdict.TheVariants as verdict
 use Rattle.jvms_machine.specs.Events.{thread_of}
 use Rattle.velodrome.specs.Specification.{Specification, is_atomic}
-use Rattle.velodrome.specs.Transactions.{TraceState, is_event, walk}
+use Rattle.velodrome.specs.Transactions.{TraceState, is_event, trace_state_of}
 
 -- Returns the maximum number of transactions and edges that are explained.
 abbrev pub most_explained : ℕ
@@ -56,7 +56,7 @@ event_name turns n = codes "event " ++ decimal n ++ turn_text (slice_get turns (
 
 -- Returns the methods that a thread has open after these items, the innermost first.
 abbrev pub open_methods : Specification → List Item → ℕ → List MethodKey
-open_methods lines items t = ((walk lines items).courses t).methods
+open_methods lines items t = ((trace_state_of lines items).threads t).methods
 
 -- Returns the method that names a transaction: the outermost atomic one of these, or the innermost if none is atomic.
 abbrev pub naming_method : Specification → List MethodKey → Option MethodKey
@@ -94,7 +94,7 @@ span_of x numbers = span_text x numbers (slice_get numbers 0)
 
 -- Returns the transaction of each event.
 abbrev pub transactions_of : Explained → List ℕ
-transactions_of x = map (λ e. e.transaction) (walk x.lines x.items).events
+transactions_of x = map (λ e. e.transaction) (trace_state_of x.lines x.items).events
 
 abbrev pub transaction_line : Explained → ℕ → List ℕ
 transaction_line x a =

@@ -28,8 +28,8 @@ enum Mark<'a> {
 /// Returns the change that an item makes to the open methods of a thread.
 fn mark_of(item: &Item, thread: ThreadId) -> Mark<'_>
     ensures { (lines : Specification) (w : TraceState)
-        → ((state_after_item lines w item.now).courses thread).methods
-        ≡ methods_after result (w.courses thread).methods }
+        → ((state_after_item lines w item.now).threads thread).methods
+        ≡ methods_after result (w.threads thread).methods }
 {
     if thread_of(item) != thread {
         return Mark::Nothing;

@@ -18,28 +18,28 @@
 //!   there is no machine, the line is its fault, as `fault M01 NoEntry`.
 #![tactic(auto)]
 
-mod course;
+mod case_run;
 mod lines;
 mod make;
 mod objects;
+mod run_cases;
 mod setting;
 mod shown;
 mod stop;
 mod texts;
 mod threads;
-mod walk;
 
-use crate::walk::{Tally, walk};
+use crate::run_cases::{Tally, run_cases};
 use std::process::ExitCode;
 use std::{env, fs, io};
 
 /// Runs the cases of each file, prints those that differ, and returns the tally.
-fn walk_files(rt: &HostRuntime) -> io::Result<Tally> {
+fn run_files(rt: &HostRuntime) -> io::Result<Tally> {
     let mut tally = Tally::default();
     for name in env::args(rt)?.skip(1) {
         let file = fs::read_to_string(rt, name.as_str())?;
         let mut differences = String::new(rt.alloc());
-        let counted = walk(rt.alloc(), file.as_str(), &mut differences)?;
+        let counted = run_cases(rt.alloc(), file.as_str(), &mut differences)?;
         tally = tally.with(counted);
         print!(rt; "{}", differences.as_str())?;
     }
@@ -47,7 +47,7 @@ fn walk_files(rt: &HostRuntime) -> io::Result<Tally> {
 }
 
 fn main(rt: HostRuntime) -> io::Result<ExitCode> {
-    let tally = walk_files(&rt)?;
+    let tally = run_files(&rt)?;
     println!(rt; "{} rows give what is wanted", tally.alike)?;
     if tally.otherwise > 0 {
         println!(rt; "{} rows don't", tally.otherwise)?;

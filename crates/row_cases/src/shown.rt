@@ -10,7 +10,7 @@
 //! - `class C HOW C.x=V ..`: `new`, `init by T`, `done` or `erroneous`, and its static fields. `gone` if there is no
 //!   such class.
 
-use crate::course::Course;
+use crate::case_run::CaseRun;
 use crate::{objects, texts, threads};
 use machine::Machine;
 use std::alloc::{AllocError, Global};
@@ -29,8 +29,8 @@ fn result(alloc: Global, machine: &Machine<'_>) -> Result<String, AllocError> {
 }
 
 /// Returns the outcome of the last turn.
-fn last(alloc: Global, machine: &Machine<'_>, course: &Course) -> Result<String, AllocError> {
-    match course.last() {
+fn last(alloc: Global, machine: &Machine<'_>, case_run: &CaseRun) -> Result<String, AllocError> {
+    match case_run.last() {
         Some(outcome) => texts::outcome(alloc, machine, outcome),
         None => String::from_str(alloc, "none"),
     }
@@ -40,7 +40,7 @@ fn last(alloc: Global, machine: &Machine<'_>, course: &Course) -> Result<String,
 fn of_machine(
     alloc: Global,
     machine: &Machine<'_>,
-    course: &Course,
+    case_run: &CaseRun,
     asked: &str,
 ) -> Result<Option<String>, AllocError> {
     let answer = match asked {
@@ -50,7 +50,7 @@ fn of_machine(
         "threads" => format!(in alloc; "{}", machine.thread_count())?,
         "result" => result(alloc, machine)?,
         "output" => texts::output(alloc, machine.output())?,
-        "last" => last(alloc, machine, course)?,
+        "last" => last(alloc, machine, case_run)?,
         _ => return Ok(None),
     };
     Ok(Some(answer))
@@ -82,12 +82,12 @@ fn of_part(
 pub fn shown(
     alloc: Global,
     machine: &Machine<'_>,
-    course: &Course,
+    case_run: &CaseRun,
     want: &str,
 ) -> Result<String, AllocError> {
     let mut words = want.split_whitespace();
     let asked = words.next().unwrap_or("");
-    if let Some(answer) = of_machine(alloc, machine, course, asked)? {
+    if let Some(answer) = of_machine(alloc, machine, case_run, asked)? {
         return format!(in alloc; "{asked} {}", answer.as_str());
     }
     let part = words.next().unwrap_or("");

@@ -108,7 +108,7 @@ constants_threads s (Some c) = refl
 
 exception_threads : (program : List Class) (s : State) (e : Exception) → (with_exception program s e).threads ≡ s.threads
 exception_threads program s (exception.New class) = refl
-exception_threads program s (exception.Held r) = refl
+exception_threads program s (exception.Existing r) = refl
 
 result_threads : (s : State) (t : ℕ) (result : Option Value) → (with_result s t result).threads ≡ s.threads
 result_threads s t result = cond_both (t == 0) (record s { result = result }) s (λ (r : State). r.threads ≡ s.threads) (λ _. refl) (λ _. refl)
@@ -139,7 +139,7 @@ affected_calls program s t operands (effect.GetStatic n) u = refl
 affected_calls program s t operands (effect.PutStatic n v) u = same_calls s.threads _ (static_threads s v (field_key_at program n)) u
 affected_calls program s t operands (effect.LoadElement r i) u = refl
 affected_calls program s t operands (effect.StoreElement r i v) u = refl
-affected_calls program s t operands (effect.Makes what) u = refl
+affected_calls program s t operands (effect.Creates what) u = refl
 affected_calls program s t operands (effect.Prints what ends_line) u = refl
 affected_calls program s t operands (effect.Locks monitor) u = refl
 affected_calls program s t operands (effect.Unlocks monitor) u = refl
@@ -189,8 +189,8 @@ module _ (program : List Class) (start : Start) (s : State) (t : ℕ) where
   action_changes (action.Fails e) = in_same (with_exception program s e) _ (exception_threads program s e) (λ thread. inl ([], refl))
 
   decision_changes : (d : TurnDecision) → AreCallsChanged t s.threads (state_after program start s t d).threads
-  decision_changes (decision.Makes act) = action_changes act
-  decision_changes (decision.Unmade o) = record { own = inl ([], refl); others = λ u other. refl }
+  decision_changes (decision.Applies act) = action_changes act
+  decision_changes (decision.Stays o) = record { own = inl ([], refl); others = λ u other. refl }
 
 -- A turn changes no other thread's calls. Its own thread loses some of the innermost or gets one more.
 pub turn_changes_calls : (program : List Class) (limits : Limits) (start : Start) (s : State) (t : ℕ) → AreCallsChanged t s.threads (turn program limits start s t).state.threads

@@ -26,7 +26,7 @@ use Rattle.jvms_machine.specs.Actions.{acquire_items, effect_items, enter_items,
 use Rattle.jvms_machine.specs.Run.{run_from}
 use Rattle.jvms_machine.specs.Turn.{decide, items_after, turn}
 use Rattle.velodrome.specs.Specification.{Specification}
-use Rattle.velodrome.specs.Transactions.{TraceState, is_event, opening_trace_state, walk, state_after_item}
+use Rattle.velodrome.specs.Transactions.{TraceState, is_event, opening_trace_state, trace_state_of, state_after_item}
 
 abbrev pub events_among : List Item → ℕ
 events_among items = length (filter is_event items)
@@ -57,9 +57,9 @@ from_counts lines w (i ∷ items) =
     omega arith
 
 -- A trace state has as many events as its items have.
-pub walk_counts : (lines : Specification) (items : List Item) → length (walk lines items).events ≡ events_among items
-unfolding walk
-walk_counts lines items = from_counts lines opening_trace_state items ∙ omega arith
+pub trace_state_counts : (lines : Specification) (items : List Item) → length (trace_state_of lines items).events ≡ events_among items
+unfolding trace_state_of
+trace_state_counts lines items = from_counts lines opening_trace_state items ∙ omega arith
 
 -- ---- The events of a turn
 
@@ -105,7 +105,7 @@ effect_is_one program t (effect.GetStatic n) = one_read t (static_variable progr
 effect_is_one program t (effect.PutStatic n v) = one_written t (static_variable program n)
 effect_is_one program t (effect.LoadElement r i) = omega arith
 effect_is_one program t (effect.StoreElement r i v) = omega arith
-effect_is_one program t (effect.Makes what) = omega arith
+effect_is_one program t (effect.Creates what) = omega arith
 effect_is_one program t (effect.Prints what ends_line) = omega arith
 effect_is_one program t (effect.Locks monitor) = one_acquired t monitor
 effect_is_one program t (effect.Unlocks monitor) = one_released t monitor
@@ -150,8 +150,8 @@ action_is_one program t (action.Raises e) = omega arith
 action_is_one program t (action.Fails e) = omega arith
 
 decision_is_one : (program : List Class) (t : ℕ) (d : TurnDecision) → events_among (items_after program t d) ≤ 1
-decision_is_one program t (decision.Makes act) = action_is_one program t act
-decision_is_one program t (decision.Unmade o) = omega arith
+decision_is_one program t (decision.Applies act) = action_is_one program t act
+decision_is_one program t (decision.Stays o) = omega arith
 
 -- A turn has at most one event.
 pub turn_has_one_event : (program : List Class) (limits : Limits) (start : Start) (s : State) (t : ℕ) → events_among (turn program limits start s t).items ≤ 1
@@ -172,15 +172,15 @@ run_counts program limits start s (t ∷ ts) =
     omega arith
 
 -- So have the trace state of its items, and that of any first items.
-pub run_has_few_events : (lines : Specification) (program : List Class) (limits : Limits) (start : Start) (s : State) (choices : List ℕ) → length (walk lines (run_from program limits start s choices).items).events ≤ length choices
+pub run_has_few_events : (lines : Specification) (program : List Class) (limits : Limits) (start : Start) (s : State) (choices : List ℕ) → length (trace_state_of lines (run_from program limits start s choices).items).events ≤ length choices
 run_has_few_events lines program limits start s choices =
-    let all = walk_counts lines (run_from program limits start s choices).items in
+    let all = trace_state_counts lines (run_from program limits start s choices).items in
     let few = run_counts program limits start s choices in
     omega arith
 
-pub run_begins_with_few_events : (lines : Specification) (program : List Class) (limits : Limits) (start : Start) (s : State) (choices : List ℕ) (before after : List Item) → (run_from program limits start s choices).items ≡ before ++ after → length (walk lines before).events ≤ length choices
+pub run_begins_with_few_events : (lines : Specification) (program : List Class) (limits : Limits) (start : Start) (s : State) (choices : List ℕ) (before after : List Item) → (run_from program limits start s choices).items ≡ before ++ after → length (trace_state_of lines before).events ≤ length choices
 run_begins_with_few_events lines program limits start s choices before after parts =
-    let first = walk_counts lines before in
+    let first = trace_state_counts lines before in
     let few = run_counts program limits start s choices in
     let both = ap events_among parts ∙ events_append before after in
     omega arith

@@ -17,7 +17,7 @@ use Rattle.jvms_machine.specs.Actions.{enter_items, exit_items, mark}
 use Rattle.jvms_machine.specs.Marks.{is_mark, marks_between}
 use Rattle.jvms_machine.specs.Events.{thread_of}
 use Rattle.velodrome.specs.Specification.{Specification}
-use Rattle.velodrome.specs.Transactions.{ThreadState, TraceState, entered, exited, happened, is_innermost, is_matched, next_transaction, same_method, state_after_item, with_thread_state}
+use Rattle.velodrome.specs.Transactions.{ThreadState, TraceState, with_entry, with_exit, with_event, is_innermost, is_matched, next_transaction, same_method, state_after_item, with_thread_state}
 use Rattle.run_item_laws.proofs.CallChanges.{IsCallsChange}
 
 -- Each of the items is matched at its position, from this trace state on.
@@ -122,37 +122,37 @@ marks_match program t before after (inr one) =
 
 -- ---- Items of one thread along a trace
 
-course_own : (t u : ℕ) (course : ThreadState) (w : TraceState) → u ≡ t → (with_thread_state u course w).courses t ≡ course
-course_own t u course w same = ap (λ (b : Bool). if b then course else w.courses t) (eq-eqb t u (sym same))
+state_own : (t u : ℕ) (thread : ThreadState) (w : TraceState) → u ≡ t → (with_thread_state u thread w).threads t ≡ thread
+state_own t u thread w same = ap (λ (b : Bool). if b then thread else w.threads t) (eq-eqb t u (sym same))
 
-course_other : (t u v : ℕ) (course : ThreadState) (w : TraceState) → u ≡ t → (v ≡ t → ⊥) → (with_thread_state u course w).courses v ≡ w.courses v
-course_other t u v course w same other = ap (λ (b : Bool). if b then course else w.courses v) (ne_eqb v u (λ is. other (is ∙ same)))
+state_other : (t u v : ℕ) (thread : ThreadState) (w : TraceState) → u ≡ t → (v ≡ t → ⊥) → (with_thread_state u thread w).threads v ≡ w.threads v
+state_other t u v thread w same other = ap (λ (b : Bool). if b then thread else w.threads v) (ne_eqb v u (λ is. other (is ∙ same)))
 
 -- An event opens no method and closes none.
-happened_keeps : (lines : Specification) (i : Item) (n : ℕ) (w : TraceState) (u : ℕ) → ((happened lines i (w.courses (thread_of i)) n w).courses u).methods ≡ (w.courses u).methods
+happened_keeps : (lines : Specification) (i : Item) (n : ℕ) (w : TraceState) (u : ℕ) → ((with_event lines i (w.threads (thread_of i)) n w).threads u).methods ≡ (w.threads u).methods
 happened_keeps lines i n w u =
-    cond_both (u == thread_of i) _ (w.courses u) (λ (c : ThreadState). c.methods ≡ (w.courses u).methods)
-    (λ is. ap (λ (v : ℕ). (w.courses v).methods) (sym (eqb-true u (thread_of i) is))) (λ _. refl)
+    cond_both (u == thread_of i) _ (w.threads u) (λ (c : ThreadState). c.methods ≡ (w.threads u).methods)
+    (λ is. ap (λ (v : ℕ). (w.threads v).methods) (sym (eqb-true u (thread_of i) is))) (λ _. refl)
 
 module _ (lines : Specification) (t : ℕ) (rest : List Item) where
   -- The rest is matched after items that lead to these methods and leave other threads unchanged.
   abbrev pub IsMatchedAfter : TraceState → List MethodKey → Type 0
-  IsMatchedAfter w after = (x : TraceState) → (x.courses t).methods ≡ after → ((u : ℕ) → (u ≡ t → ⊥) → (x.courses u).methods ≡ (w.courses u).methods) → AllMatched lines x rest
+  IsMatchedAfter w after = (x : TraceState) → (x.threads t).methods ≡ after → ((u : ℕ) → (u ≡ t → ⊥) → (x.threads u).methods ≡ (w.threads u).methods) → AllMatched lines x rest
 
-  later : (w x : TraceState) (after : List MethodKey) → ((u : ℕ) → (u ≡ t → ⊥) → (x.courses u).methods ≡ (w.courses u).methods) → IsMatchedAfter w after → IsMatchedAfter x after
+  later : (w x : TraceState) (after : List MethodKey) → ((u : ℕ) → (u ≡ t → ⊥) → (x.threads u).methods ≡ (w.threads u).methods) → IsMatchedAfter w after → IsMatchedAfter x after
   later w x after same next = λ y own others. next y own (λ u other. others u other ∙ same u other)
 
   abbrev KeepsOpen : TraceState → TraceState → Type 0
-  KeepsOpen w x = (u : ℕ) → (x.courses u).methods ≡ (w.courses u).methods
+  KeepsOpen w x = (u : ℕ) → (x.threads u).methods ≡ (w.threads u).methods
 
-  still_matched : (w x : TraceState) (items : List Item) (after : List MethodKey) → KeepsOpen w x → AreMatchedTo t (w.courses t).methods items after → AreMatchedTo t (x.courses t).methods items after
+  still_matched : (w x : TraceState) (items : List Item) (after : List MethodKey) → KeepsOpen w x → AreMatchedTo t (w.threads t).methods items after → AreMatchedTo t (x.threads t).methods items after
   still_matched w x items after same are = subst (λ (ms : List MethodKey). AreMatchedTo t ms items after) (sym (same t)) are
 
-  event_keeps : (i : Item) (w : TraceState) → KeepsOpen w (happened lines i (w.courses (thread_of i)) (next_transaction (w.courses (thread_of i)).transaction w.transactions) w)
-  event_keeps i w = happened_keeps lines i (next_transaction (w.courses (thread_of i)).transaction w.transactions) w
+  event_keeps : (i : Item) (w : TraceState) → KeepsOpen w (with_event lines i (w.threads (thread_of i)) (next_transaction (w.threads (thread_of i)).transaction w.transactions) w)
+  event_keeps i w = happened_keeps lines i (next_transaction (w.threads (thread_of i)).transaction w.transactions) w
 
   -- Matched items of thread t may precede the rest.
-  pub matched_on : (items : List Item) (w : TraceState) (after : List MethodKey) → AreMatchedTo t (w.courses t).methods items after → IsMatchedAfter w after → AllMatched lines w (items ++ rest)
+  pub matched_on : (items : List Item) (w : TraceState) (after : List MethodKey) → AreMatchedTo t (w.threads t).methods items after → IsMatchedAfter w after → AllMatched lines w (items ++ rest)
   unfolding state_after_item
   matched_on [] w after are next = next w are (λ u other. refl)
   matched_on (item.Read u v ∷ items) w after are next =
@@ -181,15 +181,15 @@ module _ (lines : Specification) (t : ℕ) (rest : List Item) where
       (refl, matched_on items x after (still_matched w x items after same are) (later w x after (λ v _. same v) next))
   matched_on (item.Enter u m ∷ items) w after are next =
       let x = state_after_item lines w (item.Enter u m) in
-      let own = ap (λ (c : ThreadState). c.methods) (course_own t u (entered m (w.courses u)) w are.0) ∙ ap (λ (v : ℕ). m ∷ (w.courses v).methods) are.0 in (
+      let own = ap (λ (c : ThreadState). c.methods) (state_own t u (with_entry m (w.threads u)) w are.0) ∙ ap (λ (v : ℕ). m ∷ (w.threads v).methods) are.0 in (
         refl,
         matched_on items x after (subst (λ (ms : List MethodKey). AreMatchedTo t ms items after) (sym own) are.1)
-            (later w x after (λ v other. ap (λ (c : ThreadState). c.methods) (course_other t u v (entered m (w.courses u)) w are.0 other)) next),
+            (later w x after (λ v other. ap (λ (c : ThreadState). c.methods) (state_other t u v (with_entry m (w.threads u)) w are.0 other)) next),
       )
   matched_on (item.Exit u m ∷ items) w after are next =
       let x = state_after_item lines w (item.Exit u m) in
-      let own = ap (λ (c : ThreadState). c.methods) (course_own t u (exited lines (w.courses u)) w are.0) ∙ ap (λ (v : ℕ). drop 1 (w.courses v).methods) are.0 in (
-        ap (λ (v : ℕ). is_innermost m (w.courses v).methods) are.0 ∙ are.1,
+      let own = ap (λ (c : ThreadState). c.methods) (state_own t u (with_exit lines (w.threads u)) w are.0) ∙ ap (λ (v : ℕ). drop 1 (w.threads v).methods) are.0 in (
+        ap (λ (v : ℕ). is_innermost m (w.threads v).methods) are.0 ∙ are.1,
         matched_on items x after (subst (λ (ms : List MethodKey). AreMatchedTo t ms items after) (sym own) are.2)
-            (later w x after (λ v other. ap (λ (c : ThreadState). c.methods) (course_other t u v (exited lines (w.courses u)) w are.0 other)) next),
+            (later w x after (λ v other. ap (λ (c : ThreadState). c.methods) (state_other t u v (with_exit lines (w.threads u)) w are.0 other)) next),
       )

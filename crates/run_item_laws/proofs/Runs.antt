@@ -16,14 +16,14 @@ use Rattle.jvms_machine.specs.Turn.{turn}
 use Rattle.jvms_machine.proofs.OpeningSoundness.{opening_is_sound}
 use Rattle.jvms_machine.proofs.TurnSoundness.{turn_keeps, turn_marks}
 use Rattle.velodrome.specs.Specification.{Specification}
-use Rattle.velodrome.specs.Transactions.{TraceState, opening_trace_state, walk}
+use Rattle.velodrome.specs.Transactions.{TraceState, opening_trace_state, trace_state_of}
 use Rattle.run_item_laws.specs.Feeding.{AreMatched}
 use Rattle.run_item_laws.proofs.CallChanges.{turn_changes_calls}
 use Rattle.run_item_laws.proofs.Matching.{AllMatched, AreMatchedTo, marks_match, matched_at, matched_by_marks, matched_on, open_keys}
 
 -- The open methods of each thread are those of its calls.
 abbrev pub AreOpen : List Class → State → TraceState → Type 0
-AreOpen program s w = (u : ℕ) → (w.courses u).methods ≡ open_keys program (calls_of s u)
+AreOpen program s w = (u : ℕ) → (w.threads u).methods ≡ open_keys program (calls_of s u)
 
 opening_calls : (u : ℕ) → calls_in (slice_get (new_thread None ∷ []) u) ≡ []
 opening_calls zero = refl
@@ -42,10 +42,10 @@ module _ (lines : Specification) (program : List Class) (limits : Limits) (start
       (subst (λ (items : List Item). AreMatchedTo t (open_keys program (calls_of s t)) items (open_keys program (calls_of row.state t))) (sym (turn_marks program limits start s t are starts sound))
       (marks_match program t (calls_of s t) (calls_of row.state t) (turn_changes_calls program limits start s t).own))
 
-  open_after : (s : State) (t : ℕ) (w x : TraceState) → AreOpen program s w → (x.courses t).methods ≡ open_keys program (calls_of (turn program limits start s t).state t) → ((u : ℕ) → (u ≡ t → ⊥) → (x.courses u).methods ≡ (w.courses u).methods) → AreOpen program (turn program limits start s t).state x
+  open_after : (s : State) (t : ℕ) (w x : TraceState) → AreOpen program s w → (x.threads t).methods ≡ open_keys program (calls_of (turn program limits start s t).state t) → ((u : ℕ) → (u ≡ t → ⊥) → (x.threads u).methods ≡ (w.threads u).methods) → AreOpen program (turn program limits start s t).state x
   open_after s t w x agree own others u =
       ⊎_elim
-      (λ same. subst (λ (v : ℕ). (x.courses v).methods ≡ open_keys program (calls_of (turn program limits start s t).state v)) (sym same.1) own)
+      (λ same. subst (λ (v : ℕ). (x.threads v).methods ≡ open_keys program (calls_of (turn program limits start s t).state v)) (sym same.1) own)
       (λ other. others u other.1 ∙ agree u ∙ sym (ap (open_keys program) ((turn_changes_calls program limits start s t).others u other.1)))
       (eqb_tells u t)
 
@@ -60,7 +60,7 @@ module _ (lines : Specification) (program : List Class) (limits : Limits) (start
 
   -- Each item of a run from the opening state is matched.
   pub items_are_matched : (choices : List ℕ) → AreMatched lines (run_from program limits start (opening program) choices).items
-  unfolding walk
+  unfolding trace_state_of
   items_are_matched choices before after i parts =
       matched_at lines opening_trace_state before after i
       (subst (AllMatched lines opening_trace_state) parts (run_is_matched choices (opening program) opening_trace_state (opening_is_sound program limits are) (opening_is_open program)))

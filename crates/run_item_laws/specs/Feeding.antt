@@ -2,8 +2,8 @@
 use Rattle.std.specs.Prelude.{◌≡◌, true, List, ◌∷◌, ◌++◌}
 use Rattle.jvms_machine.specs.declared.trace.Item.{Item}
 use Rattle.velodrome.specs.Specification.{Specification}
-use Rattle.velodrome.specs.Transactions.{is_matched, walk}
+use Rattle.velodrome.specs.Transactions.{is_matched, trace_state_of}
 
 -- Each exit is of its thread's innermost open method (Velodrome, section 3).
 abbrev pub AreMatched : Specification → List Item → Type 0
-AreMatched lines items = (before after : List Item) (i : Item) → items ≡ before ++ i ∷ after → is_matched (walk lines before) i ≡ true
+AreMatched lines items = (before after : List Item) (i : Item) → items ≡ before ++ i ∷ after → is_matched (trace_state_of lines before) i ≡ true

@@ -11,7 +11,7 @@ ghost use Rattle.jvms_program.specs.Program.{IsProgram};
 ghost use Rattle.jvms_program.specs.declared.program.Class.{Class};
 ghost use Rattle.run_item_laws.specs.Feeding.{AreMatched};
 ghost use Rattle.velodrome.specs.Specification.{Specification};
-ghost use Rattle.velodrome.specs.Transactions.{walk};
+ghost use Rattle.velodrome.specs.Transactions.{trace_state_of};
 
 /// Proves that the items of a run from the opening state may be fed to a checker. Each exit is of its thread's
 /// innermost open method, and there is at most one event for each choice.
@@ -22,10 +22,10 @@ pub fn items_of_a_run_may_be_fed()
         → AreMatched lines (run_from program limits start (opening program) choices).items }
     ensures few { (lines : Specification) (program : List Class)
         (limits : Limits) (start : Start) (choices : List ℕ)
-        → length (walk lines (run_from program limits start (opening program) choices).items).events
-        ≤ length choices }
+        → length (trace_state_of lines
+        (run_from program limits start (opening program) choices).items).events ≤ length choices }
     ensures within { (lines : Specification) (program : List Class) (limits : Limits)
         (start : Start) (choices : List ℕ) (before after : List Item)
         → (run_from program limits start (opening program) choices).items ≡ before ++ after
-        → length (walk lines before).events ≤ length choices }
+        → length (trace_state_of lines before).events ≤ length choices }
 {}

@@ -174,7 +174,7 @@ module _ (program : List Class) (are : AllByRecursion IsNamedUnlessBuiltIn progr
   action_named t act = tt
 
   decision_named : (t : ℕ) (d : TurnDecision) → AllByRecursion IsNamed (items_after program t d)
-  decision_named t (decision.Makes act) = action_named t act
+  decision_named t (decision.Applies act) = action_named t act
   decision_named t d = tt
 
   turn_named : (limits : Limits) (start : Start) (s : State) (t : ℕ) → AllByRecursion IsNamed (turn program limits start s t).items
@@ -190,24 +190,24 @@ module _ (program : List Class) (are : AllByRecursion IsNamedUnlessBuiltIn progr
 
 -- ---- Written and read
 
-variable_may_stand : (v : Variable) → IsNamedVariable v → VariableHasNumbers v → IsVariable v
-variable_may_stand (variable.Instance r f) named numbers = (numbers, named)
-variable_may_stand (variable.Static f) named numbers = named
-variable_may_stand (variable.Element r i) named numbers = numbers
+variable_is_valid : (v : Variable) → IsNamedVariable v → VariableHasNumbers v → IsVariable v
+variable_is_valid (variable.Instance r f) named numbers = (numbers, named)
+variable_is_valid (variable.Static f) named numbers = named
+variable_is_valid (variable.Element r i) named numbers = numbers
 
-item_may_stand : (i : Item) → IsNamed i → HasNumbers i → IsItem i
-item_may_stand (item.Read t v) named numbers = (numbers.0, variable_may_stand v named numbers.1)
-item_may_stand (item.Write t v) named numbers = (numbers.0, variable_may_stand v named numbers.1)
-item_may_stand (item.Acquire t r) named numbers = numbers
-item_may_stand (item.Release t r) named numbers = numbers
-item_may_stand (item.Fork t u) named numbers = numbers
-item_may_stand (item.Join t u) named numbers = numbers
-item_may_stand (item.Enter t m) named numbers = (numbers.0, named)
-item_may_stand (item.Exit t m) named numbers = (numbers.0, named)
+item_is_valid : (i : Item) → IsNamed i → HasNumbers i → IsItem i
+item_is_valid (item.Read t v) named numbers = (numbers.0, variable_is_valid v named numbers.1)
+item_is_valid (item.Write t v) named numbers = (numbers.0, variable_is_valid v named numbers.1)
+item_is_valid (item.Acquire t r) named numbers = numbers
+item_is_valid (item.Release t r) named numbers = numbers
+item_is_valid (item.Fork t u) named numbers = numbers
+item_is_valid (item.Join t u) named numbers = numbers
+item_is_valid (item.Enter t m) named numbers = (numbers.0, named)
+item_is_valid (item.Exit t m) named numbers = (numbers.0, named)
 
-may_stand : (items : List Item) → AllByRecursion IsNamed items → AllByRecursion HasNumbers items → AllByRecursion IsItem items
-may_stand [] named numbers = tt
-may_stand (i ∷ items) named numbers = (item_may_stand i named.0 numbers.0, may_stand items named.1 numbers.1)
+are_valid : (items : List Item) → AllByRecursion IsNamed items → AllByRecursion HasNumbers items → AllByRecursion IsItem items
+are_valid [] named numbers = tt
+are_valid (i ∷ items) named numbers = (item_is_valid i named.0 numbers.0, are_valid items named.1 numbers.1)
 
 pub files_named : (files : List ClassFile) (limits : Limits) (start : Start) (s : State) (choices : List ℕ) → AllByRecursion IsSpelled files → AllByRecursion IsNamed (run_from (program_of files) limits start s choices).items
 files_named files limits start s choices spelled = run_named (program_of files) (program_named files spelled) limits start s choices
@@ -217,4 +217,4 @@ pub files_again : (files : List ClassFile) (limits : Limits) (start : Start) (s 
     → (answer ≡ Ok (run_from (program_of files) limits start s choices).items) ⊎ (answer ≡ Err fault.Memory)
 files_again files limits start s choices answer spelled numbers read =
     let items = (run_from (program_of files) limits start s choices).items in
-    read_again items answer (may_stand items (files_named files limits start s choices spelled) numbers) read
+    read_again items answer (are_valid items (files_named files limits start s choices spelled) numbers) read

@@ -3,7 +3,7 @@ use Rattle.std.proofs.Common.{◌≡◌, ℕ, zero, suc, ◌+◌, ◌-◌, ◌<�
 use Rattle.std.proofs.lemmas.List.{append-nil, append_assoc}
 use Rattle.jvms_machine.specs.declared.machine.Outcome.{Outcome}
 use Rattle.jvms_machine.specs.declared.trace.Item.{Item}
-use Rattle.trace.specs.Recording.{recorded}
+use Rattle.trace.specs.Recording.{with_items}
 use Rattle.machine.specs.Machine.{Machine, transition_of, with_state}
 use Rattle.machine.specs.Runs.{run_of, IsRun}
 use Rattle.machine.proofs.RunLaws.{run_none, run_more}
@@ -90,7 +90,7 @@ pub taken_more : (before : Machine) (first : Chooser) (most : ℕ) (items_before
     (t : ℕ) (o : Outcome) (after : Machine) (later : Chooser) (items_after : Option (List Item))
     → AreTaken before first most items_before made choices outcomes m chooser items → made < most
     → choice_of chooser m ≡ Some t → later ≡ chooser_after chooser m
-    → o ≡ (transition_of m t).outcome → after ≡ with_state m (transition_of m t).state → items_after ≡ recorded items (transition_of m t).items
+    → o ≡ (transition_of m t).outcome → after ≡ with_state m (transition_of m t).state → items_after ≡ with_items items (transition_of m t).items
     → AreTaken before first most items_before (made + 1) (choices ++ t ∷ []) (outcomes ++ o ∷ []) after later items_after
 taken_more before first most items_before made choices outcomes m chooser items t o after later items_after taken below chosen later_is outcome state items_are =
     record {
@@ -139,7 +139,7 @@ broken_here before first most items_before made choices outcomes m chooser later
       made = made;
       within = taken.within;
       state = taken.ran.1 ∙ ap (λ l. with_state before (run_of before l).state) are;
-      items = taken.ran.2 ∙ ap (λ l. recorded items_before (run_of before l).items) are;
+      items = taken.ran.2 ∙ ap (λ l. with_items items_before (run_of before l).items) are;
       given = given_here first before made m chooser later taken.left_behind gave;
     }
 

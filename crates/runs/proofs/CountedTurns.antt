@@ -4,7 +4,7 @@ use Rattle.std.proofs.lemmas.List.{length-append, length-replicate}
 use Rattle.jvms_machine.specs.declared.machine.Outcome.{Outcome}
 use Rattle.jvms_machine.specs.declared.machine.Outcome.TheVariants as outcome
 use Rattle.jvms_machine.specs.declared.trace.Item.{Item}
-use Rattle.trace.specs.Recording.{recorded}
+use Rattle.trace.specs.Recording.{with_items}
 use Rattle.machine.specs.Machine.{Machine, with_state}
 use Rattle.machine.specs.Runs.{run_of}
 use Rattle.schedule.specs.Choosers.{Chooser}
@@ -65,7 +65,7 @@ counted_broken before first most items_before made m chooser later items are gav
 pub record AllCounted (before : Machine) (first : Chooser) (most : ℕ) (items_before : Option (List Item)) (made : ℕ) (m : Machine) (items : Option (List Item)) : Type 0 where
   pub many : made ≡ length (choices_from most first before)
   pub state : m ≡ with_state before (run_of before (choices_from most first before)).state
-  pub kept : items ≡ recorded items_before (run_of before (choices_from most first before)).items
+  pub kept : items ≡ with_items items_before (run_of before (choices_from most first before)).items
 
 all_counted : (before : Machine) (first : Chooser) (most : ℕ) (items_before : Option (List Item)) (made : ℕ) (m : Machine) (chooser : Chooser) (items : Option (List Item))
     → (are : AreCounted before first most items_before made m chooser items) → are.choices ≡ choices_from most first before → AllCounted before first most items_before made m items
@@ -73,7 +73,7 @@ all_counted before first most items_before made m chooser items are all =
     record {
       many = are.many ∙ ap length all;
       state = are.taken.ran.1 ∙ ap (λ l. with_state before (run_of before l).state) all;
-      kept = are.taken.ran.2 ∙ ap (λ l. recorded items_before (run_of before l).items) all;
+      kept = are.taken.ran.2 ∙ ap (λ l. with_items items_before (run_of before l).items) all;
     }
 
 -- If the chooser gives none, these are all the turns.

@@ -9,8 +9,8 @@ use Rattle.jvms_machine.specs.declared.machine.Outcome.{Outcome}
 use Rattle.jvms_machine.specs.declared.machine.Outcome.TheVariants as outcome
 use Rattle.machine.specs.Machine.{Machine, transition_of}
 use Rattle.machine.specs.Others.{LeavesOthers}
-use Rattle.schedule.specs.Choosers.{enabled_of, may_go_on}
-use Rattle.schedule.specs.Enabled.{can_go_on, enabled_threads}
+use Rattle.schedule.specs.Choosers.{enabled_of, may_be_enabled}
+use Rattle.schedule.specs.Enabled.{is_enabled_in, enabled_threads}
 use Rattle.runs.specs.Kept.{AreEnabled, AreIdle, IsKept, is_fit, one_enabled}
 use Rattle.runs.specs.declared.kept.Kept.{Kept}
 
@@ -18,7 +18,7 @@ use Rattle.runs.specs.declared.kept.Kept.{Kept}
 
 -- Returns the enabled threads from a number on.
 abbrev pub enabled_left : Machine → ℕ → List ℕ
-enabled_left m t = filter (can_go_on m) (range_with_len t (length m.state.threads - t))
+enabled_left m t = filter (is_enabled_in m) (range_with_len t (length m.state.threads - t))
 
 -- No thread's turn below a number is Bad.
 abbrev pub AreFitBelow : Machine → ℕ → Type 0
@@ -30,13 +30,13 @@ range_next a n less = let e : n - a ≡ suc (n - (a + 1)) = omega arith in rw e 
 -- The threads from a number on are its own thread, if that is enabled, and those after it.
 left_next : (m : Machine) (t : ℕ) → t < length m.state.threads → enabled_left m t ≡ one_enabled m t ++ enabled_left m (t + 1)
 left_next m t below =
-    ap (filter (can_go_on m)) (range_next t (length m.state.threads) below)
-    ∙ elim (can_go_on m t) as (λ b. cond b (t ∷ enabled_left m (t + 1)) (enabled_left m (t + 1)) ≡ cond b (t ∷ []) [] ++ enabled_left m (t + 1))
+    ap (filter (is_enabled_in m)) (range_next t (length m.state.threads) below)
+    ∙ elim (is_enabled_in m t) as (λ b. cond b (t ∷ enabled_left m (t + 1)) (enabled_left m (t + 1)) ≡ cond b (t ∷ []) [] ++ enabled_left m (t + 1))
     [ true ↦ refl | false ↦ refl ]
 
 -- No thread was inspected yet.
 pub left_first : (m : Machine) → [] ++ enabled_left m 0 ≡ enabled_threads m
-left_first m = let all : length m.state.threads - 0 ≡ length m.state.threads = omega arith in ap (λ n. filter (can_go_on m) (range_with_len 0 n)) all
+left_first m = let all : length m.state.threads - 0 ≡ length m.state.threads = omega arith in ap (λ n. filter (is_enabled_in m) (range_with_len 0 n)) all
 
 -- One more thread is inspected.
 pub inspected_next : (m : Machine) (t : ℕ) (seen more : List ℕ) → t < length m.state.threads → more ≡ seen ++ one_enabled m t → seen ++ enabled_left m t ≡ enabled_threads m → more ++ enabled_left m (t + 1) ≡ enabled_threads m
@@ -61,7 +61,7 @@ fit_next m t false now is below current u less = absurd (false≢true (sym is �
 pub inspected_all : (m : Machine) (t : ℕ) (seen : List ℕ) → length m.state.threads ≤ t → seen ++ enabled_left m t ≡ enabled_threads m → seen ≡ enabled_threads m
 inspected_all m t seen most whole =
     let none : length m.state.threads - t ≡ 0 = omega arith in
-    sym (append-nil seen) ∙ ap (λ n. seen ++ filter (can_go_on m) (range_with_len t n)) (sym none) ∙ whole
+    sym (append-nil seen) ∙ ap (λ n. seen ++ filter (is_enabled_in m) (range_with_len t n)) (sym none) ∙ whole
 
 -- ---- From turn to turn
 
@@ -80,15 +80,15 @@ enabled_is_fit (outcome.Bad cause) on = absurd (false≢true on)
 enabled_is_fit _ on = refl
 
 -- After a quiet turn of a thread that was enabled and is, the enabled threads are those before it.
-module _ (m after : Machine) (t : ℕ) (threads : length after.state.threads ≡ length m.state.threads) (others : LeavesOthers m t after) (was : can_go_on m t ≡ true) (is : can_go_on after t ≡ true) (fit : AreFitBelow m (length m.state.threads)) where
-  as_enabled : (u : ℕ) → u < length m.state.threads → can_go_on after u ≡ can_go_on m u
+module _ (m after : Machine) (t : ℕ) (threads : length after.state.threads ≡ length m.state.threads) (others : LeavesOthers m t after) (was : is_enabled_in m t ≡ true) (is : is_enabled_in after t ≡ true) (fit : AreFitBelow m (length m.state.threads)) where
+  as_enabled : (u : ℕ) → u < length m.state.threads → is_enabled_in after u ≡ is_enabled_in m u
   as_enabled u less =
-      cond_both (u == t) true false (λ _. can_go_on after u ≡ can_go_on m u)
-      (λ same. subst (λ (v : ℕ). can_go_on after v ≡ can_go_on m v) (sym (eqb-true u t same)) (is ∙ sym was))
+      cond_both (u == t) true false (λ _. is_enabled_in after u ≡ is_enabled_in m u)
+      (λ same. subst (λ (v : ℕ). is_enabled_in after v ≡ is_enabled_in m v) (sym (eqb-true u t same)) (is ∙ sym was))
       (λ other. (others u (differs u t other) (fit u less)).enabled)
 
   pub left_enabled : enabled_threads after ≡ enabled_threads m
-  left_enabled = ap (enabled_of (can_go_on after)) threads ∙ filter_same (can_go_on m) (can_go_on after) 0 (length m.state.threads) (λ u less. as_enabled u (omega (arith, less)))
+  left_enabled = ap (enabled_of (is_enabled_in after)) threads ∙ filter_same (is_enabled_in m) (is_enabled_in after) 0 (length m.state.threads) (λ u less. as_enabled u (omega (arith, less)))
 
   pub left_fit : AreFitBelow after (length after.state.threads)
   left_fit u less =
@@ -123,16 +123,16 @@ any_append t u (x ∷ xs) is none = by_first (x == u) is none (any_append t u xs
     by_first false e f rest = rest e f
 
 -- One more thread is idle.
-one_idle : (m : Machine) (idle : List ℕ) (t : ℕ) → AreIdle m idle → can_go_on m t ≡ false → is_bad (transition_of m t).outcome ≡ false → AreIdle m (idle ++ t ∷ [])
+one_idle : (m : Machine) (idle : List ℕ) (t : ℕ) → AreIdle m idle → is_enabled_in m t ≡ false → is_bad (transition_of m t).outcome ≡ false → AreIdle m (idle ++ t ∷ [])
 one_idle m idle t are off fit =
     record {
-      not_on = λ u is. by_old (λ v. can_go_on m v ≡ false) u is (are.not_on u) off;
+      not_on = λ u is. by_old (λ v. is_enabled_in m v ≡ false) u is (are.not_on u) off;
       fit = λ u is. by_old (λ v. is_bad (transition_of m v).outcome ≡ false) u is (are.fit u) fit;
     }
   where
-    by_old : (P : ℕ → Type 0) (u : ℕ) → may_go_on (idle ++ t ∷ []) u ≡ false → (may_go_on idle u ≡ false → P u) → P t → P u
+    by_old : (P : ℕ → Type 0) (u : ℕ) → may_be_enabled (idle ++ t ∷ []) u ≡ false → (may_be_enabled idle u ≡ false → P u) → P t → P u
     by_old P u is old now =
-        cond_both (may_go_on idle u) true false (λ _. P u) (λ apart. subst P (any_append t u idle is apart) now) (λ among. old among)
+        cond_both (may_be_enabled idle u) true false (λ _. P u) (λ apart. subst P (any_append t u idle is apart) now) (λ among. old among)
 
 -- A thread that isn't enabled may be noted as idle.
 pub idle_noted : (m after : Machine) (kept noted : Kept) (t : ℕ) (o : Outcome) → after ≡ m → IsKept m kept → o ≡ (transition_of m t).outcome → is_enabled o ≡ false
@@ -149,23 +149,23 @@ idle_noted m after kept noted t o same are outcome off current threads items =
     by_items (inr more) = rw more.1 (one_idle m kept.idle.items t are.beside (sym (ap is_enabled outcome) ∙ off) (sym (ap is_bad outcome) ∙ more.0))
 
 -- A quiet turn of another thread leaves idle threads idle.
-pub idle_on : (m after : Machine) (t : ℕ) (idle : List ℕ) → AreIdle m idle → may_go_on idle t ≡ true → LeavesOthers m t after → AreIdle after idle
+pub idle_on : (m after : Machine) (t : ℕ) (idle : List ℕ) → AreIdle m idle → may_be_enabled idle t ≡ true → LeavesOthers m t after → AreIdle after idle
 idle_on m after t idle are beside others =
     record {
       not_on = λ u is. (others u (apart u is) (are.fit u is)).enabled ∙ are.not_on u is;
       fit = λ u is. (others u (apart u is) (are.fit u is)).fit;
     }
   where
-    apart : (u : ℕ) → may_go_on idle u ≡ false → u ≢ t
-    apart u is same = false≢true (sym is ∙ ap (may_go_on idle) same ∙ beside)
+    apart : (u : ℕ) → may_be_enabled idle u ≡ false → u ≢ t
+    apart u is same = false≢true (sym is ∙ ap (may_be_enabled idle) same ∙ beside)
 
 -- An enabled thread isn't idle.
-pub enabled_apart : (m : Machine) (idle : List ℕ) (u : ℕ) → AreIdle m idle → can_go_on m u ≡ true → may_go_on idle u ≡ true
+pub enabled_apart : (m : Machine) (idle : List ℕ) (u : ℕ) → AreIdle m idle → is_enabled_in m u ≡ true → may_be_enabled idle u ≡ true
 enabled_apart m idle u are on =
-    cond_both (may_go_on idle u) true false (λ _. may_go_on idle u ≡ true) (λ apart. apart) (λ among. absurd (false≢true (sym (are.not_on u among) ∙ on)))
+    cond_both (may_be_enabled idle u) true false (λ _. may_be_enabled idle u ≡ true) (λ apart. apart) (λ among. absurd (false≢true (sym (are.not_on u among) ∙ on)))
 
 -- A turn of a thread that isn't idle leaves idle threads idle if it was quiet. Otherwise none is noted.
-pub kept_after : (m after : Machine) (kept noted : Kept) (idle : List ℕ) (t : ℕ) (is_quiet : Bool) → IsKept m kept → idle ≡ kept.idle.items → may_go_on idle t ≡ true
+pub kept_after : (m after : Machine) (kept noted : Kept) (idle : List ℕ) (t : ℕ) (is_quiet : Bool) → IsKept m kept → idle ≡ kept.idle.items → may_be_enabled idle t ≡ true
     → (is_quiet ≡ true → LeavesOthers m t after) → noted.is_current ≡ false
     → (is_quiet ≡ true → noted.idle.items ≡ kept.idle.items) → (is_quiet ≡ false → noted.idle.items ≡ []) → IsKept after noted
 kept_after m after kept noted idle t is_quiet are same beside others old quiet other =
@@ -175,7 +175,7 @@ kept_after m after kept noted idle t is_quiet are same beside others old quiet o
     }
   where
     by_quiet : (b : Bool) → (b ≡ true → LeavesOthers m t after) → (b ≡ true → noted.idle.items ≡ kept.idle.items) → (b ≡ false → noted.idle.items ≡ []) → AreIdle after noted.idle.items
-    by_quiet true others quiet other = rw (quiet refl) (idle_on m after t kept.idle.items are.beside (subst (λ (l : List ℕ). may_go_on l t ≡ true) same beside) (others refl))
+    by_quiet true others quiet other = rw (quiet refl) (idle_on m after t kept.idle.items are.beside (subst (λ (l : List ℕ). may_be_enabled l t ≡ true) same beside) (others refl))
     by_quiet false others quiet other = none_idle after noted.idle.items (other refl)
 
 -- No thread is noted as idle any more.

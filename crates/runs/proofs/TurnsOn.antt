@@ -5,17 +5,17 @@ use Rattle.jvms_machine.specs.declared.machine.Outcome.{Outcome}
 use Rattle.jvms_machine.specs.declared.machine.Outcome.TheVariants as outcome
 use Rattle.jvms_machine.specs.declared.trace.Item.{Item}
 use Rattle.jvms_machine.specs.Status.{is_enabled}
-use Rattle.trace.specs.Recording.{recorded}
+use Rattle.trace.specs.Recording.{with_items}
 use Rattle.machine.specs.Machine.{Machine, transition_of}
 use Rattle.machine.specs.Runs.{RanAmong, AreRunTurns}
-use Rattle.schedule.specs.Choosers.{Chooser, counted, counted_times, enabled_of, next, IsNextFor}
-use Rattle.schedule.specs.Enabled.{can_go_on, enabled_threads}
+use Rattle.schedule.specs.Choosers.{Chooser, with_choice, with_choices, enabled_of, next, IsNextFor}
+use Rattle.schedule.specs.Enabled.{is_enabled_in, enabled_threads}
 use Rattle.runs.specs.Choices.{after_turn, AreConsecutiveTurns}
 use Rattle.runs.proofs.ChosenTurns.{AreTaken, taken_more}
 
 -- Before the first turn, nothing has changed.
 pub none_on : (m : Machine) (chooser : Chooser) (items : Option (List Item)) (thread : ℕ) → AreConsecutiveTurns m chooser items thread 0 m chooser items
-unfolding AreRunTurns IsNextFor counted_times
+unfolding AreRunTurns IsNextFor with_choices
 none_on m chooser items thread = record { ran = (refl, refl); chosen = tt; counted = refl }
 
 -- A thread that is next for a number of turns is next for any smaller number.
@@ -24,20 +24,20 @@ unfolding IsNextFor
 next_fewer zero times thread threads chooser few is = tt
 next_fewer (suc fewer) zero thread threads chooser few is = let never : ⊥ = omega arith in absurd never
 next_fewer (suc fewer) (suc times) thread threads chooser few is =
-    (is.0, next_fewer fewer times thread threads (counted thread chooser) (omega arith) is.1)
+    (is.0, next_fewer fewer times thread threads (with_choice thread chooser) (omega arith) is.1)
 
 -- Turns of a thread that ran are the chooser's, if the thread is next for at least as many.
 pub fewer_on : (m after : Machine) (chooser later : Chooser) (items more : Option (List Item)) (thread times turns : ℕ) → AreRunTurns times thread (length m.state.threads) m items after more → times ≤ turns
-    → IsNextFor turns thread (length m.state.threads) chooser → later ≡ counted_times times thread chooser → AreConsecutiveTurns m chooser items thread times after later more
+    → IsNextFor turns thread (length m.state.threads) chooser → later ≡ with_choices times thread chooser → AreConsecutiveTurns m chooser items thread times after later more
 fewer_on m after chooser later items more thread times turns ran few next_is counted_is =
     record { ran = ran; chosen = next_fewer times turns thread (length m.state.threads) chooser few next_is; counted = counted_is }
 
 on_taken : (n threads : ℕ) (before : Machine) (first : Chooser) (most : ℕ) (items_before : Option (List Item)) (made : ℕ) (choices : List ℕ) (outcomes : List Outcome) (m : Machine) (chooser : Chooser) (items : Option (List Item))
     (t : ℕ) (after : Machine) (later : Chooser) (more : Option (List Item))
     → AreTaken before first most items_before made choices outcomes m chooser items → made + n ≤ most
-    → AreRunTurns n t threads m items after more → IsNextFor n t threads chooser → later ≡ counted_times n t chooser
+    → AreRunTurns n t threads m items after more → IsNextFor n t threads chooser → later ≡ with_choices n t chooser
     → AreTaken before first most items_before (made + n) (choices ++ replicate n t) (outcomes ++ replicate n outcome.Ran) after later more
-unfolding AreRunTurns IsNextFor counted_times
+unfolding AreRunTurns IsNextFor with_choices
 on_taken zero threads before first most items_before made choices outcomes m chooser items t after later more taken fits ran next_is later_is =
     let as_many : made + 0 ≡ made = omega arith in
     subst (λ l. AreTaken before first most items_before (made + 0) l (outcomes ++ []) after later more) (sym (append-nil choices))
@@ -45,11 +45,11 @@ on_taken zero threads before first most items_before made choices outcomes m cho
     (rw (as_many, ran.0, ran.1, later_is) taken))
 on_taken (suc n) threads before first most items_before made choices outcomes m chooser items t after later more taken fits ran next_is later_is =
     let among : RanAmong threads m t = ran.0 in
-    let chosen : next chooser (enabled_threads m) ≡ (Some t, counted t chooser) =
-    subst (λ k. next chooser (enabled_of (can_go_on m) k) ≡ (Some t, counted t chooser)) (sym among.1) (next_is.0 (can_go_on m) (ap is_enabled among.0)) in
-    let one = taken_more before first most items_before made choices outcomes m chooser items t outcome.Ran (after_turn m t) (counted t chooser) (recorded items (transition_of m t).items)
+    let chosen : next chooser (enabled_threads m) ≡ (Some t, with_choice t chooser) =
+    subst (λ k. next chooser (enabled_of (is_enabled_in m) k) ≡ (Some t, with_choice t chooser)) (sym among.1) (next_is.0 (is_enabled_in m) (ap is_enabled among.0)) in
+    let one = taken_more before first most items_before made choices outcomes m chooser items t outcome.Ran (after_turn m t) (with_choice t chooser) (with_items items (transition_of m t).items)
     taken (omega arith) (ap (λ c. c.0) chosen) (sym (ap (λ c. c.1) chosen)) (sym among.0) refl refl in
-    let rest = on_taken n threads before first most items_before (made + 1) (choices ++ t ∷ []) (outcomes ++ outcome.Ran ∷ []) (after_turn m t) (counted t chooser) (recorded items (transition_of m t).items) t after later more
+    let rest = on_taken n threads before first most items_before (made + 1) (choices ++ t ∷ []) (outcomes ++ outcome.Ran ∷ []) (after_turn m t) (with_choice t chooser) (with_items items (transition_of m t).items) t after later more
     one (omega arith) ran.1 next_is.1 later_is in
     let as_many : made + 1 + n ≡ made + suc n = omega arith in
     subst (λ l. AreTaken before first most items_before (made + suc n) l (outcomes ++ replicate (suc n) outcome.Ran) after later more) (append_assoc choices (t ∷ []) (replicate n t))

@@ -2,10 +2,10 @@
 use Rattle.std.specs.Prelude.{◌≡◌, ℕ, zero, suc, ◌≤◌, ◌⊎◌, List, [], ◌∷◌, length, Option, Some, None}
 use Rattle.jvms_machine.specs.declared.machine.Outcome.{Outcome}
 use Rattle.jvms_machine.specs.declared.trace.Item.{Item}
-use Rattle.trace.specs.Recording.{recorded}
+use Rattle.trace.specs.Recording.{with_items}
 use Rattle.machine.specs.Machine.{Machine, transition_of, with_state}
 use Rattle.machine.specs.Runs.{run_of, AreRunTurns}
-use Rattle.schedule.specs.Choosers.{Chooser, counted_times, next, IsNextFor}
+use Rattle.schedule.specs.Choosers.{Chooser, with_choices, next, IsNextFor}
 use Rattle.schedule.specs.Enabled.{enabled_threads}
 
 -- Returns a choice, followed by the choices after it. Without a choice the list is empty.
@@ -30,7 +30,7 @@ chooser_after chooser m = (next chooser (enabled_threads m)).1
 abbrev pub IsTurnOf : Machine → Chooser → Option (List Item) → ℕ × Outcome → Machine → Chooser → Option (List Item) → Type 0
 IsTurnOf m chooser items taken after later more =
     (choice_of chooser m ≡ Some taken.0) × (taken.1 ≡ (transition_of m taken.0).outcome)
-    × (after ≡ after_turn m taken.0) × (later ≡ chooser_after chooser m) × (more ≡ recorded items (transition_of m taken.0).items)
+    × (after ≡ after_turn m taken.0) × (later ≡ chooser_after chooser m) × (more ≡ with_items items (transition_of m taken.0).items)
 
 -- The machine, the chooser and the items are unchanged.
 abbrev pub IsUnchanged : Machine → Chooser → Option (List Item) → Machine → Chooser → Option (List Item) → Type 0
@@ -55,7 +55,7 @@ pub record AreConsecutiveTurns (m : Machine) (chooser : Chooser) (items : Option
   -- The thread is the chooser's choice for each of them.
   pub chosen : IsNextFor times thread (length m.state.threads) chooser
   -- The chooser has them counted.
-  pub counted : later ≡ counted_times times thread chooser
+  pub counted : later ≡ with_choices times thread chooser
 
 -- Returns the choices that a chooser gives from a machine on, at most this number of them. Each is given for the
 -- machine after the turns before.
@@ -90,6 +90,6 @@ pub record BrokeOff (before : Machine) (first : Chooser) (most : ℕ) (after : M
   pub within : made ≤ most
   -- The machine and the items are those after these turns.
   pub state : after ≡ with_state before (run_of before (choices_from made first before)).state
-  pub items : items_after ≡ recorded items_before (run_of before (choices_from made first before)).items
+  pub items : items_after ≡ with_items items_before (run_of before (choices_from made first before)).items
   -- The chooser has given the choices of these turns, and maybe the one after them.
   pub given : (later ≡ chooser_after_choices made first before) ⊎ (later ≡ chooser_after_choices (suc made) first before)

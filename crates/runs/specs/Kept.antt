@@ -2,13 +2,13 @@
 use Rattle.std.specs.Prelude.{◌≡◌, ℕ, ◌<◌, false, not, if◌then◌else◌, Bool, IsTrue, List, [], ◌∷◌, length}
 use Rattle.jvms_machine.specs.Status.{is_bad}
 use Rattle.machine.specs.Machine.{Machine, transition_of}
-use Rattle.schedule.specs.Choosers.{may_go_on}
-use Rattle.schedule.specs.Enabled.{can_go_on, enabled_threads}
+use Rattle.schedule.specs.Choosers.{may_be_enabled}
+use Rattle.schedule.specs.Enabled.{is_enabled_in, enabled_threads}
 use Rattle.runs.specs.declared.kept.Kept.{Kept}
 
 -- Returns a list of the thread, if it is enabled.
 abbrev pub one_enabled : Machine → ℕ → List ℕ
-one_enabled m t = if can_go_on m t then t ∷ [] else []
+one_enabled m t = if is_enabled_in m t then t ∷ [] else []
 
 -- Decides that the thread's turn isn't Bad.
 abbrev pub is_fit : Machine → ℕ → Bool
@@ -21,8 +21,8 @@ pub record AreEnabled (m : Machine) (threads : List ℕ) : Type 0 where
 
 -- These threads are idle: they aren't enabled, and their turns aren't Bad.
 pub record AreIdle (m : Machine) (idle : List ℕ) : Type 0 where
-  pub not_on : (u : ℕ) → may_go_on idle u ≡ false → can_go_on m u ≡ false
-  pub fit : (u : ℕ) → may_go_on idle u ≡ false → is_bad (transition_of m u).outcome ≡ false
+  pub not_on : (u : ℕ) → may_be_enabled idle u ≡ false → is_enabled_in m u ≡ false
+  pub fit : (u : ℕ) → may_be_enabled idle u ≡ false → is_bad (transition_of m u).outcome ≡ false
 
 -- If the list is current, it has the enabled threads of a machine, and no thread's turn is Bad. The threads that are
 -- noted as idle are idle.

@@ -4,7 +4,7 @@ ghost use Rattle.std.specs.Prelude.{◌≡◌, length, IfOk, OnOk, OnErr};
 ghost use Rattle.machine.specs.Machine.{with_state};
 ghost use Rattle.machine.specs.Runs.{run_of};
 ghost use Rattle.runs.specs.Choices.{choices_from, chooser_after_choices, BrokeOff};
-ghost use Rattle.trace.specs.Recording.{recorded};
+ghost use Rattle.trace.specs.Recording.{with_items};
 
 use crate::kept::Kept;
 use crate::turn::{take_consecutive_turns, take_turn};
@@ -33,7 +33,7 @@ pub fn count_turns(
     // The machine and the items are those of the run of these choices, by the instruction table.
     ensures state { OnOk result (machine.new ≡ with_state machine.old
         (run_of machine.old (choices_from most chooser.old machine.old)).state) }
-    ensures items { OnOk result (recording.new ≡ recorded recording.old
+    ensures items { OnOk result (recording.new ≡ with_items recording.old
         (run_of machine.old (choices_from most chooser.old machine.old)).items) }
     // Without memory, the turns of some first choices were taken.
     ensures broken { OnErr result (BrokeOff machine.old chooser.old

@@ -5,7 +5,7 @@ ghost use Rattle.jvms_machine.specs.Status.{is_enabled};
 ghost use Rattle.runs.specs.Choices.{AreConsecutiveTurns, IsNextTurn, IsTurn, IsUnchanged, IsUntaken};
 ghost use Rattle.runs.specs.Kept.{IsKept};
 ghost use Rattle.schedule.specs.Choosers.{is_seeded};
-ghost use Rattle.schedule.specs.Enabled.{can_go_on};
+ghost use Rattle.schedule.specs.Enabled.{is_enabled_in};
 
 use crate::kept::Kept;
 use machine::{Machine, Outcome, ThreadId, Turn, is_enabled};
@@ -120,7 +120,7 @@ fn leaves_enabled(turn: Turn, machine: &Machine<'_>, thread: ThreadId, threads: 
     ensures quiet { IsTrue result → IsTrue turn.is_quiet }
     ensures was { IsTrue result → is_enabled turn.outcome ≡ true }
     ensures threads { IsTrue result → length machine.now.state.threads ≡ threads }
-    ensures is { IsTrue result → can_go_on machine.now thread ≡ true }
+    ensures is { IsTrue result → is_enabled_in machine.now thread ≡ true }
 {
     turn.is_quiet
         && is_enabled(turn.outcome)

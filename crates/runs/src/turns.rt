@@ -4,7 +4,7 @@ ghost use Rattle.std.specs.Prelude.{◌≡◌, ◌++◌, replicate, IfOk, OnOk, 
 ghost use Rattle.machine.specs.Machine.{with_state};
 ghost use Rattle.machine.specs.Runs.{run_of};
 ghost use Rattle.runs.specs.Choices.{choices_from, chooser_after_choices, BrokeOff};
-ghost use Rattle.trace.specs.Recording.{recorded};
+ghost use Rattle.trace.specs.Recording.{with_items};
 
 use crate::kept::Kept;
 use crate::turn::{TurnsOn, take_consecutive_turns, take_turn};
@@ -71,7 +71,7 @@ pub fn take_turns(
     ensures state { IfOk result
         (λ r. machine.new ≡ with_state machine.old (run_of machine.old r.choices).state) }
     ensures items { IfOk result
-        (λ r. recording.new ≡ recorded recording.old (run_of machine.old r.choices).items) }
+        (λ r. recording.new ≡ with_items recording.old (run_of machine.old r.choices).items) }
     // Without memory, the turns of some first choices were taken.
     ensures broken { OnErr result (BrokeOff machine.old chooser.old
         most machine.new chooser.new recording.old recording.new) }

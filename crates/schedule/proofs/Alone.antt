@@ -2,7 +2,7 @@
 use Rattle.std.proofs.Common.{◌≡◌, ℕ, zero, suc, ◌+◌, ◌<◌, Bool, true, false, cond, ◌==◌, ◌∷◌, Some, None, refl, ap, arith}
 use Rattle.std.specs.List.{filter, range_with_len}
 use Rattle.std.proofs.lemmas.Bool.Decides.{nat_tests}
-use Rattle.schedule.specs.Choosers.{Alone, alone, counted_times, enabled_of, IsNextFor}
+use Rattle.schedule.specs.Choosers.{Alone, alone, with_choices, enabled_of, IsNextFor}
 
 -- Thread 0 isn't among threads above it.
 none_above : (p : ℕ → Bool) (a n : ℕ) → 0 < a → alone (filter p (range_with_len a n)) ≡ None
@@ -29,7 +29,7 @@ alone_for zero count there = tt
 alone_for (suc times) count there =
     (λ p enabled. ap (λ o. (o, Alone)) (first_is_alone p count there enabled), alone_for times count there)
 
-pub alone_stays : (times chosen : ℕ) → counted_times times chosen Alone ≡ Alone
-unfolding counted_times
+pub alone_stays : (times chosen : ℕ) → with_choices times chosen Alone ≡ Alone
+unfolding with_choices
 alone_stays zero chosen = refl
 alone_stays (suc times) chosen = alone_stays times chosen

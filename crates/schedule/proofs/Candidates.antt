@@ -3,7 +3,7 @@ use Rattle.std.proofs.Common.{◌≡◌, ℕ, zero, suc, ◌+◌, ◌-◌, ◌<�
 use Rattle.std.specs.List.{find, range_with_len}
 use Rattle.std.proofs.lemmas.Bool.Decides.{nat_tests}
 use Rattle.rand_pcg.specs.Lcg.{Lcg}
-use Rattle.schedule.specs.Choosers.{Chooser, Listed, RoundRobin, Seeded, after_choice, counted, counted_times, enabled_of, next, next_of, round_robin, IsNextFor}
+use Rattle.schedule.specs.Choosers.{Chooser, Listed, RoundRobin, Seeded, after_choice, with_choice, with_choices, enabled_of, next, next_of, round_robin, IsNextFor}
 use Rattle.schedule.proofs.Ranges.{next_of_within, range_more, range_none, stays_enabled}
 
 -- The last thread stays the choice while it is enabled and has turns left.
@@ -52,7 +52,7 @@ least p count quantum thread turns had there most enabled =
 
 -- The choice of round robin is its next choice, and leaves it with that choice counted.
 is_next : (p : ℕ → Bool) (count quantum thread turns chosen : ℕ) → round_robin quantum thread turns (enabled_of p count) ≡ Some chosen
-    → next (RoundRobin quantum thread turns) (enabled_of p count) ≡ (Some chosen, counted chosen (RoundRobin quantum thread turns))
+    → next (RoundRobin quantum thread turns) (enabled_of p count) ≡ (Some chosen, with_choice chosen (RoundRobin quantum thread turns))
 is_next p count quantum thread turns chosen is = ap (λ o. (o, after_choice quantum thread turns o)) is
 
 -- A thread without turns left is followed by the thread above it for one turn.
@@ -66,7 +66,7 @@ unfolding IsNextFor
 least_for count quantum thread turns had there most = (λ p enabled. is_next p count quantum thread turns 0 (least p count quantum thread turns had there most enabled), tt)
 
 -- Counting the last thread adds one turn, up to the quantum.
-counted_same : (quantum thread turns : ℕ) → counted thread (RoundRobin quantum thread turns) ≡ RoundRobin quantum thread (min quantum (turns + 1))
+counted_same : (quantum thread turns : ℕ) → with_choice thread (RoundRobin quantum thread turns) ≡ RoundRobin quantum thread (min quantum (turns + 1))
 counted_same quantum thread turns =
     let same : (thread == thread) ≡ true = grind (arith, nat_tests) in
     rw same refl
@@ -78,7 +78,7 @@ stays_for zero count quantum thread turns fits there = tt
 stays_for (suc times) count quantum thread turns fits there =
     let fewer : turns < quantum = omega arith in
     let one_more : min quantum (turns + 1) ≡ turns + 1 = omega arith in
-    let after : counted thread (RoundRobin quantum thread turns) ≡ RoundRobin quantum thread (turns + 1) =
+    let after : with_choice thread (RoundRobin quantum thread turns) ≡ RoundRobin quantum thread (turns + 1) =
     counted_same quantum thread turns ∙ ap (RoundRobin quantum thread) one_more in (
       λ p enabled. is_next p count quantum thread turns thread (same_stays p count quantum thread turns fewer there enabled),
       rw after (stays_for times count quantum thread (turns + 1) (omega arith) there),
@@ -105,35 +105,35 @@ alone_for times count quantum thread turns there one =
 -- ---- Counted turns
 
 -- Turns of the last thread are counted up to the quantum.
-pub counted_on : (times quantum thread turns : ℕ) → 1 ≤ times → counted_times times thread (RoundRobin quantum thread turns) ≡ RoundRobin quantum thread (min quantum (turns + times))
-unfolding counted_times
+pub counted_on : (times quantum thread turns : ℕ) → 1 ≤ times → with_choices times thread (RoundRobin quantum thread turns) ≡ RoundRobin quantum thread (min quantum (turns + times))
+unfolding with_choices
 counted_on zero quantum thread turns some = let never : ⊥ = omega arith in absurd never
 counted_on (suc zero) quantum thread turns some = counted_same quantum thread turns
 counted_on (suc (suc times)) quantum thread turns some =
     let more : min quantum (min quantum (turns + 1) + suc times) ≡ min quantum (turns + suc (suc times)) = omega arith in
-    ap (counted_times (suc times) thread) (counted_same quantum thread turns)
+    ap (with_choices (suc times) thread) (counted_same quantum thread turns)
     ∙ counted_on (suc times) quantum thread (min quantum (turns + 1)) (omega arith)
     ∙ ap (RoundRobin quantum thread) more
 
-pub counted_none : (chosen : ℕ) (chooser : Chooser) → counted_times 0 chosen chooser ≡ chooser
-unfolding counted_times
+pub counted_none : (chosen : ℕ) (chooser : Chooser) → with_choices 0 chosen chooser ≡ chooser
+unfolding with_choices
 counted_none chosen chooser = refl
 
 -- Counting several turns is counting the first, and then the others.
-pub counted_first : (times chosen : ℕ) (chooser : Chooser) → 1 ≤ times → counted_times times chosen chooser ≡ counted_times (times - 1) chosen (counted chosen chooser)
-unfolding counted_times
+pub counted_first : (times chosen : ℕ) (chooser : Chooser) → 1 ≤ times → with_choices times chosen chooser ≡ with_choices (times - 1) chosen (with_choice chosen chooser)
+unfolding with_choices
 counted_first zero chosen chooser some = let never : ⊥ = omega arith in absurd never
 counted_first (suc times) chosen chooser some =
     let rest : suc times - 1 ≡ times = omega arith in
-    ap (λ n. counted_times n chosen (counted chosen chooser)) (sym rest)
+    ap (λ n. with_choices n chosen (with_choice chosen chooser)) (sym rest)
 
 -- Counting changes neither a list nor a generator.
-pub listed_stays : (times chosen : ℕ) (threads : List ℕ) → counted_times times chosen (Listed threads) ≡ Listed threads
-unfolding counted_times
+pub listed_stays : (times chosen : ℕ) (threads : List ℕ) → with_choices times chosen (Listed threads) ≡ Listed threads
+unfolding with_choices
 listed_stays zero chosen threads = refl
 listed_stays (suc times) chosen threads = listed_stays times chosen threads
 
-pub seeded_stays : (times chosen : ℕ) (generator : Lcg) → counted_times times chosen (Seeded generator) ≡ Seeded generator
-unfolding counted_times
+pub seeded_stays : (times chosen : ℕ) (generator : Lcg) → with_choices times chosen (Seeded generator) ≡ Seeded generator
+unfolding with_choices
 seeded_stays zero chosen generator = refl
 seeded_stays (suc times) chosen generator = seeded_stays times chosen generator

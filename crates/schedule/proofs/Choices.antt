@@ -6,8 +6,8 @@ use Rattle.std.proofs.lemmas.Option.{slice_get-get_or}
 use Rattle.std.proofs.lemmas.Bool.Decides.{nat_tests}
 use Rattle.rand_pcg.specs.Pcg.{pcg32}
 use Rattle.schedule.specs.Schedules as schedules
-use Rattle.schedule.specs.Choosers.{Alone, Chooser, Listed, RoundRobin, Seeded, opened, next, asks, stays, round_robin, next_of, turns_with, after_choice, generator_of, words_of}
-use Rattle.schedule.specs.Past.{last_of, consecutive_choices, behind, choice_after, with_choice}
+use Rattle.schedule.specs.Choosers.{Alone, Chooser, Listed, RoundRobin, Seeded, chooser_of_schedule, next, asks, stays, round_robin, next_of, turns_with, after_choice, generator_of, words_of}
+use Rattle.schedule.specs.Past.{last_of, consecutive_choices, round_robin_after, choice_after, with_choice}
 
 -- ---- Enabled threads
 
@@ -94,7 +94,7 @@ none_is_enabled Alone enabled h = absurd (not_true h)
 
 -- ---- Turns in a row
 
-pub opened_behind : (quantum : ℕ) → opened (schedules.RoundRobin quantum) ≡ behind quantum []
+pub opened_behind : (quantum : ℕ) → chooser_of_schedule (schedules.RoundRobin quantum) ≡ round_robin_after quantum []
 opened_behind quantum = let e : min quantum 0 ≡ 0 = grind (arith, nat_tests) in ap (RoundRobin quantum 0) (sym e)
 
 capped : (quantum n : ℕ) → nat_lt (min quantum n) quantum ≡ nat_lt n quantum
@@ -127,7 +127,7 @@ turns_behind quantum past chosen some =
     ] in
     cases (nat_eq chosen (last_of past)) refl
 
-after_behind : (quantum : ℕ) (past : List ℕ) (chosen : Option ℕ) → 0 < quantum → after_choice quantum (last_of past) (min quantum (consecutive_choices (last_of past) past)) chosen ≡ behind quantum (with_choice chosen past)
+after_behind : (quantum : ℕ) (past : List ℕ) (chosen : Option ℕ) → 0 < quantum → after_choice quantum (last_of past) (min quantum (consecutive_choices (last_of past) past)) chosen ≡ round_robin_after quantum (with_choice chosen past)
 after_behind quantum past None some = refl
 after_behind quantum past (Some t) some = rw (itself t) (ap (RoundRobin quantum t) (turns_behind quantum past t some))
 
@@ -135,7 +135,7 @@ same_choice : (quantum thread turns : ℕ) (enabled : List ℕ) → round_robin 
 same_choice quantum thread turns enabled =
     ap (λ b. if (b && list_any (λ t. nat_eq t thread) enabled) then Some thread else next_of thread enabled) (capped quantum turns)
 
-pub next_behind : (quantum : ℕ) (past enabled : List ℕ) → 0 < quantum → next (behind quantum past) enabled ≡ (choice_after quantum past enabled, behind quantum (with_choice (choice_after quantum past enabled) past))
+pub next_behind : (quantum : ℕ) (past enabled : List ℕ) → 0 < quantum → next (round_robin_after quantum past) enabled ≡ (choice_after quantum past enabled, round_robin_after quantum (with_choice (choice_after quantum past enabled) past))
 next_behind quantum past enabled some =
     rw (same_choice quantum (last_of past) (consecutive_choices (last_of past) past) enabled, after_behind quantum past (choice_after quantum past enabled) some) refl
 

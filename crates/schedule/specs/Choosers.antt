@@ -33,10 +33,10 @@ IsSeeded text generator =
     (state : ℕ) × (stream : ℕ) × WritesSeed text state stream × (generator ≡ generator_of state stream)
 
 -- Returns the chooser of a schedule before its first choice. Round robin starts at thread 0, with no turn counted.
-abbrev pub opened : Schedule → Chooser
-opened (schedules.Listed threads) = Listed threads
-opened (schedules.RoundRobin quantum) = RoundRobin quantum 0 0
-opened (schedules.Seeded state stream) = Seeded (generator_of state stream)
+abbrev pub chooser_of_schedule : Schedule → Chooser
+chooser_of_schedule (schedules.Listed threads) = Listed threads
+chooser_of_schedule (schedules.RoundRobin quantum) = RoundRobin quantum 0 0
+chooser_of_schedule (schedules.Seeded state stream) = Seeded (generator_of state stream)
 
 -- Returns the enabled threads among this number of threads, in rising order.
 abbrev pub enabled_of : (ℕ → Bool) → ℕ → List ℕ
@@ -95,35 +95,35 @@ next (Seeded generator) enabled = by_word generator enabled
 next Alone enabled = (alone enabled, Alone)
 
 -- Returns a chooser with a choice counted. Only round robin counts.
-abbrev pub counted : ℕ → Chooser → Chooser
-counted chosen (Listed threads) = Listed threads
-counted chosen (RoundRobin quantum thread turns) = after_choice quantum thread turns (Some chosen)
-counted chosen (Seeded generator) = Seeded generator
-counted chosen Alone = Alone
+abbrev pub with_choice : ℕ → Chooser → Chooser
+with_choice chosen (Listed threads) = Listed threads
+with_choice chosen (RoundRobin quantum thread turns) = after_choice quantum thread turns (Some chosen)
+with_choice chosen (Seeded generator) = Seeded generator
+with_choice chosen Alone = Alone
 
 -- Returns a chooser with this number of choices of a thread counted.
-unfoldable pub counted_times : ℕ → ℕ → Chooser → Chooser
-counted_times zero chosen chooser = chooser
-counted_times (suc times) chosen chooser = counted_times times chosen (counted chosen chooser)
+unfoldable pub with_choices : ℕ → ℕ → Chooser → Chooser
+with_choices zero chosen chooser = chooser
+with_choices (suc times) chosen chooser = with_choices times chosen (with_choice chosen chooser)
 
 -- Among this number of threads, one is the next choice for this number of consecutive turns, as long as it is
 -- enabled. Which other threads are enabled doesn't matter.
 unfoldable pub IsNextFor : ℕ → ℕ → ℕ → Chooser → Type 0
 IsNextFor zero thread threads chooser = Unit {0}
 IsNextFor (suc times) thread threads chooser =
-    ((is_enabled : ℕ → Bool) → is_enabled thread ≡ true → next chooser (enabled_of is_enabled threads) ≡ (Some thread, counted thread chooser))
-    × IsNextFor times thread threads (counted thread chooser)
+    ((is_enabled : ℕ → Bool) → is_enabled thread ≡ true → next chooser (enabled_of is_enabled threads) ≡ (Some thread, with_choice thread chooser))
+    × IsNextFor times thread threads (with_choice thread chooser)
 
 -- Decides whether a thread may be enabled: it isn't one of the idle threads.
-abbrev pub may_go_on : List ℕ → ℕ → Bool
-may_go_on idle thread = not (list_any (λ t. t == thread) idle)
+abbrev pub may_be_enabled : List ℕ → ℕ → Bool
+may_be_enabled idle thread = not (list_any (λ t. t == thread) idle)
 
 -- Among this number of threads, one is the next choice if it is enabled and no idle thread is. Which other threads are
 -- enabled doesn't matter.
 unfoldable pub IsNextBeside : List ℕ → ℕ → ℕ → Chooser → Type 0
 IsNextBeside idle thread threads chooser =
-    (is_enabled : ℕ → Bool) → ((t : ℕ) → is_enabled t ≡ true → may_go_on idle t ≡ true) → is_enabled thread ≡ true
-    → next chooser (enabled_of is_enabled threads) ≡ (Some thread, counted thread chooser)
+    (is_enabled : ℕ → Bool) → ((t : ℕ) → is_enabled t ≡ true → may_be_enabled idle t ≡ true) → is_enabled thread ≡ true
+    → next chooser (enabled_of is_enabled threads) ≡ (Some thread, with_choice thread chooser)
 
 -- Decides whether the chooser chooses among all enabled threads.
 abbrev pub asks : Chooser → Bool

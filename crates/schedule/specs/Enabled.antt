@@ -5,9 +5,9 @@ use Rattle.machine.specs.Machine.{Machine, transition_of}
 use Rattle.schedule.specs.Choosers.{enabled_of}
 
 -- Decides whether the thread is enabled: it can take its next turn.
-abbrev pub can_go_on : Machine → ℕ → Bool
-can_go_on m t = is_enabled (transition_of m t).outcome
+abbrev pub is_enabled_in : Machine → ℕ → Bool
+is_enabled_in m t = is_enabled (transition_of m t).outcome
 
 -- Returns the enabled threads of a machine, in rising order.
 abbrev pub enabled_threads : Machine → List ℕ
-enabled_threads m = enabled_of (can_go_on m) (length m.state.threads)
+enabled_threads m = enabled_of (is_enabled_in m) (length m.state.threads)

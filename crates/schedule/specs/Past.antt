@@ -18,8 +18,8 @@ abbrev pub choice_after : ℕ → List ℕ → List ℕ → Option ℕ
 choice_after quantum past enabled = round_robin quantum (last_of past) (consecutive_choices (last_of past) past) enabled
 
 -- Returns round robin after past choices.
-abbrev pub behind : ℕ → List ℕ → Chooser
-behind quantum past = RoundRobin quantum (last_of past) (min quantum (consecutive_choices (last_of past) past))
+abbrev pub round_robin_after : ℕ → List ℕ → Chooser
+round_robin_after quantum past = RoundRobin quantum (last_of past) (min quantum (consecutive_choices (last_of past) past))
 
 -- Returns the past choices with one more, if there is one.
 abbrev pub with_choice : Option ℕ → List ℕ → List ℕ

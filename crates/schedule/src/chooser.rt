@@ -4,8 +4,8 @@ ghost use Rattle.std.specs.Prelude.{ℕ, List, ◌≡◌, ◌≤◌, ◌↔◌, 
 ghost use Rattle.schedule.specs.Schedules as schedules;
 ghost use Rattle.schedule.specs.Schedules.{Schedule, Listed, RoundRobin, Spells, WritesSeed};
 ghost use Rattle.schedule.specs.Enabled.{enabled_threads};
-ghost use Rattle.schedule.specs.Rules.{shown};
-ghost use Rattle.schedule.specs.Choosers.{opened, enabled_of, by_word, counted_times, is_seeded, may_go_on, next, Alone, Seeded, IsNextBeside, IsNextFor, IsSeeded};
+ghost use Rattle.schedule.specs.Rules.{chooser_of_rule};
+ghost use Rattle.schedule.specs.Choosers.{chooser_of_schedule, enabled_of, by_word, with_choices, is_seeded, may_be_enabled, next, Alone, Seeded, IsNextBeside, IsNextFor, IsSeeded};
 
 use crate::fault::ScheduleFault;
 use crate::list::{ListLeft, listed};
@@ -40,11 +40,11 @@ pub struct Chooser {
 
 impl Model for Chooser {
     ghost use Rattle.schedule.specs.Choosers.{Chooser as Seen};
-    ghost use Rattle.schedule.specs.Rules.{shown};
+    ghost use Rattle.schedule.specs.Rules.{chooser_of_rule};
 
     ghost Value = { Seen };
 
-    ghost view = { λ c. shown c.rule };
+    ghost view = { λ c. chooser_of_rule c.rule };
 }
 
 /// Returns the generator whose state and stream a text writes, separated by a colon, or `None` if it writes none.
@@ -63,7 +63,7 @@ fn generator(text: &str) -> Option<Lcg64Xsh32>
 /// `Syntax` if the text spells no schedule, and `Memory` if memory runs out for a list.
 fn rule_of(alloc: Global, text: &str) -> Result<Rule, ScheduleFault>
     ensures rule { IfOk result (λ rule. (schedule : Schedule)
-        × Spells text.now schedule × (shown rule ≡ opened schedule)) }
+        × Spells text.now schedule × (chooser_of_rule rule ≡ chooser_of_schedule schedule)) }
     ensures syntax { IsErrOf result ScheduleFault.Syntax → (schedule : Schedule)
         → ¬ (Spells text.now schedule) }
     ensures memory { IsErrOf result ScheduleFault.Memory
@@ -133,7 +133,7 @@ fn candidate_alone<T: Threads>(threads: &T) -> Option<Candidate>
 impl Rule {
     /// Returns a rule that makes the same choices. Both share the threads of a list.
     fn copy(&self) -> Result<Rule, AllocError>
-        ensures { IfOk result (λ rule. shown rule ≡ shown self.now) }
+        ensures { IfOk result (λ rule. chooser_of_rule rule ≡ chooser_of_rule self.now) }
     {
         match self {
             Rule::Listed(list) => Ok(Rule::Listed(list.copy()?)),
@@ -148,7 +148,7 @@ impl Chooser {
     /// Returns the chooser of the schedule `rr:1`: each enabled thread takes one turn, by rising number, round to
     /// the least.
     pub fn in_turn() -> Chooser
-        ensures { result ≡ opened (RoundRobin 1) }
+        ensures { result ≡ chooser_of_schedule (RoundRobin 1) }
     {
         let turns = Turns {
             quantum: 1,
@@ -162,7 +162,7 @@ impl Chooser {
 
     /// Returns the chooser of the schedule `seed:S:K`: random words of state S and stream K name enabled threads.
     pub fn seeded(state: u64, stream: u64) -> Chooser
-        ensures { result ≡ opened (schedules.Seeded state stream) }
+        ensures { result ≡ chooser_of_schedule (schedules.Seeded state stream) }
     {
         Chooser {
             rule: Rule::Seeded(Lcg64Xsh32::new(state, stream)),
@@ -189,10 +189,10 @@ impl Chooser {
     /// `Syntax` if and only if the text spells no schedule. `Memory` if memory runs out for a list.
     pub fn parse(alloc: Global, text: &str) -> Result<Chooser, ScheduleFault>
         ensures chooser { IfOk result (λ chooser. (schedule : Schedule)
-            × Spells text.now schedule × (chooser ≡ opened schedule)) }
+            × Spells text.now schedule × (chooser ≡ chooser_of_schedule schedule)) }
         // Whichever schedule the text spells, this is its chooser.
         ensures only { (schedule : Schedule) → Spells text.now schedule
-            → IfOk result (λ chooser. chooser ≡ opened schedule) }
+            → IfOk result (λ chooser. chooser ≡ chooser_of_schedule schedule) }
         ensures syntax { IsErrOf result ScheduleFault.Syntax
             ↔ ((schedule : Schedule) → ¬ (Spells text.now schedule)) }
         ensures memory { IsErrOf result ScheduleFault.Memory
@@ -284,7 +284,7 @@ impl Chooser {
     pub fn candidate_beside(&self, machine: &Machine<'_>, idle: &[ThreadId]) -> Option<ThreadId>
         ensures next { IfSome result
             (λ t. IsNextBeside idle.now t (length machine.now.state.threads) self.now) }
-        ensures beside { IfSome result (λ t. may_go_on idle.now t ≡ true) }
+        ensures beside { IfSome result (λ t. may_be_enabled idle.now t ≡ true) }
     {
         match &self.rule {
             Rule::RoundRobin(turns) => turns.candidate_beside(machine.count(), idle),
@@ -295,7 +295,7 @@ impl Chooser {
     /// Counts consecutive choices of a thread that was predicted and was enabled each time.
     #[tactic(auto, using(crate::proofs::Candidates::listed_stays, crate::proofs::Candidates::seeded_stays, crate::proofs::Alone::alone_stays))]
     pub fn count(&mut self, chosen: ThreadId, times: u64)
-        ensures { self.new ≡ counted_times times chosen self.old }
+        ensures { self.new ≡ with_choices times chosen self.old }
     {
         if let Rule::RoundRobin(turns) = &mut self.rule {
             turns.count_times(chosen, times);

@@ -2,8 +2,8 @@
 
 ghost use Rattle.std.specs.Prelude.{◌≡◌, ◌↔◌, ℕ, ◌<◌, IsTrue, IsNone, IfSome, List, [], ◌∷◌, Contains};
 ghost use Rattle.schedule.specs.Schedules.{RoundRobin};
-ghost use Rattle.schedule.specs.Choosers.{Chooser, opened, next, asks, generator_of, words_of};
-ghost use Rattle.schedule.specs.Past.{behind, choice_after, with_choice};
+ghost use Rattle.schedule.specs.Choosers.{Chooser, chooser_of_schedule, next, asks, generator_of, words_of};
+ghost use Rattle.schedule.specs.Past.{round_robin_after, choice_after, with_choice};
 
 /// States that round robin and random words choose an enabled thread, as long as there is one.
 #[tactic(auto, using(crate::proofs::Choices::chosen_is_enabled, crate::proofs::Choices::none_is_enabled))]
@@ -18,10 +18,12 @@ pub fn choices_are_of_enabled_threads()
 /// back to it.
 #[tactic(auto, using(crate::proofs::Choices::opened_behind, crate::proofs::Choices::next_behind))]
 pub fn round_robin_counts_consecutive_choices()
-    ensures start { (quantum : ℕ) → opened (RoundRobin quantum) ≡ behind quantum [] }
+    ensures start { (quantum : ℕ) → chooser_of_schedule (RoundRobin quantum)
+        ≡ round_robin_after quantum [] }
     ensures turn { (quantum : ℕ) (past : List ℕ) (enabled : List ℕ) → 0 < quantum
         → let chosen = choice_after quantum past enabled in
-        next (behind quantum past) enabled ≡ (chosen, behind quantum (with_choice chosen past)) }
+        next (round_robin_after quantum past) enabled
+        ≡ (chosen, round_robin_after quantum (with_choice chosen past)) }
 {}
 
 /// States that the first words of state 42 and stream 54 are those of PCG's demonstration of pcg32.

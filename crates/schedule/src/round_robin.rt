@@ -1,7 +1,7 @@
 //! Round robin: each enabled thread in turn, for a quantum of consecutive turns.
 
 ghost use Rattle.std.specs.Prelude.{◌≡◌, ◌≤◌, IfSome, true};
-ghost use Rattle.schedule.specs.Choosers.{enabled_of, stays, round_robin, after_choice, turns_with, counted_times, may_go_on, IsNextBeside, IsNextFor, RoundRobin};
+ghost use Rattle.schedule.specs.Choosers.{enabled_of, stays, round_robin, after_choice, turns_with, with_choices, may_be_enabled, IsNextBeside, IsNextFor, RoundRobin};
 
 use crate::threads::{Beside, Threads, next_enabled};
 use jvms_machine::machine::ThreadId;
@@ -29,7 +29,7 @@ pub(crate) struct Turns {
 impl Turns {
     /// Returns whether the last thread stays the choice: it is enabled and has turns left.
     #[tactic(auto, using(crate::proofs::Ranges::stays_enabled))]
-    fn goes_on<T: Threads>(&self, threads: &T) -> bool
+    fn stays<T: Threads>(&self, threads: &T) -> bool
         ensures { result ≡ stays self.now.quantum self.now.thread self.now.turns
             (enabled_of (T.passes threads.now) (T.count threads.now)) }
     {
@@ -43,7 +43,7 @@ impl Turns {
         ensures { result ≡ round_robin self.now.quantum self.now.thread self.now.turns
             (enabled_of (T.passes threads.now) (T.count threads.now)) }
     {
-        if self.goes_on(threads) {
+        if self.stays(threads) {
             Some(self.thread)
         } else {
             next_enabled(threads, self.thread)
@@ -86,7 +86,7 @@ impl Turns {
     pub(crate) fn candidate_beside(&self, count: u32, idle: &[ThreadId]) -> Option<ThreadId>
         ensures next { IfSome result (λ t. IsNextBeside idle.now t count
             (RoundRobin self.now.quantum self.now.thread self.now.turns)) }
-        ensures beside { IfSome result (λ t. may_go_on idle.now t ≡ true) }
+        ensures beside { IfSome result (λ t. may_be_enabled idle.now t ≡ true) }
     {
         self.choice(&Beside { count, idle })
     }
@@ -110,7 +110,7 @@ impl Turns {
     #[tactic(auto, using(crate::proofs::Candidates::counted_on))]
     fn count_on(&mut self, times: u64)
         requires { 1 ≤ times }
-        ensures { RoundRobin self.new.quantum self.new.thread self.new.turns ≡ counted_times times
+        ensures { RoundRobin self.new.quantum self.new.thread self.new.turns ≡ with_choices times
             self.old.thread (RoundRobin self.old.quantum self.old.thread self.old.turns) }
     {
         let left = self.quantum.saturating_sub(self.turns);
@@ -124,7 +124,7 @@ impl Turns {
     /// Counts consecutive turns of a thread.
     #[tactic(auto, using(crate::proofs::Candidates::counted_none, crate::proofs::Candidates::counted_first))]
     pub(crate) fn count_times(&mut self, chosen: ThreadId, times: u64)
-        ensures { RoundRobin self.new.quantum self.new.thread self.new.turns ≡ counted_times times
+        ensures { RoundRobin self.new.quantum self.new.thread self.new.turns ≡ with_choices times
             chosen (RoundRobin self.old.quantum self.old.thread self.old.turns) }
     {
         if times == 0 {

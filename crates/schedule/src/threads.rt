@@ -2,8 +2,8 @@
 
 ghost use Rattle.std.specs.Prelude.{◌≡◌, ℕ, ◌-◌, Bool, length, slice_get};
 ghost use Rattle.std.specs.List.{find, range_with_len};
-ghost use Rattle.schedule.specs.Choosers.{alone, enabled_of, may_go_on, next_of};
-ghost use Rattle.schedule.specs.Enabled.{can_go_on};
+ghost use Rattle.schedule.specs.Choosers.{alone, enabled_of, may_be_enabled, next_of};
+ghost use Rattle.schedule.specs.Enabled.{is_enabled_in};
 
 use jvms_machine::machine::ThreadId;
 use machine::{Machine, is_enabled};
@@ -28,7 +28,7 @@ pub(crate) trait Threads {
 impl Threads for Machine<'_> {
     ghost count = { λ m. length m.state.threads };
 
-    ghost passes = { can_go_on };
+    ghost passes = { is_enabled_in };
 
     fn count(&self) -> u32 {
         self.state_is_sound();
@@ -55,7 +55,7 @@ pub(crate) struct Beside<'a> {
 impl Threads for Beside<'_> {
     ghost count = { λ b. b.count };
 
-    ghost passes = { λ b. may_go_on b.idle.now };
+    ghost passes = { λ b. may_be_enabled b.idle.now };
 
     fn count(&self) -> u32 {
         self.count

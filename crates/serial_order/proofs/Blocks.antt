@@ -12,13 +12,13 @@ use Rattle.velodrome.specs.Cycles.{IsBefore, IsEdge, IsIn}
 use Rattle.velodrome.specs.Orders.{IsOrder, NoneLeadsBack}
 use Rattle.velodrome.specs.Rearrangements.{AreInOnePiece, IsRearrangement, IsSerial, KeepsConflicts}
 use Rattle.velodrome.specs.Specification.{Specification}
-use Rattle.velodrome.specs.Transactions.{Event, walk}
+use Rattle.velodrome.specs.Transactions.{Event, trace_state_of}
 use Rattle.serial_order.specs.Chains.{events_of, in_order}
 use Rattle.serial_order.specs.Serial.{IsOrderOf}
 use Rattle.serial_order.proofs.Counts.{are_numbers, each_number}
 use Rattle.serial_order.proofs.Members.{all_in, all_of_members, in_back, in_either, in_filter, in_front, in_map, of_filter, of_map}
 use Rattle.serial_order.proofs.Rearranged.{rearrangement_is_serial}
-use Rattle.serial_order.proofs.Walks.{AreNumberedFrom, IsCounted, numbered_keep, numbered_within, one_of_number, walk_counted}
+use Rattle.serial_order.proofs.TraceStates.{AreNumberedFrom, IsCounted, numbered_keep, numbered_within, one_of_number, trace_state_counted}
 
 -- Returns the events of a transaction.
 abbrev pub block : ℕ → List Event → List Event
@@ -164,7 +164,7 @@ blocks_numbers events (t ∷ order) are =
     ∙ ap (λ (ns : List ℕ). events_of t 1 (map (λ e. e.transaction) events) ++ ns) (blocks_numbers events order are)
 
 -- The events of each transaction, in an order of transactions, are a rearrangement.
-blocks_rearranged : (lines : Specification) (items : List Item) (order : List ℕ) → IsOrder (walk lines items).events (walk lines items).transactions order → IsRearrangement (walk lines items).events (numbers_of (blocks (walk lines items).events order))
+blocks_rearranged : (lines : Specification) (items : List Item) (order : List ℕ) → IsOrder (trace_state_of lines items).events (trace_state_of lines items).transactions order → IsRearrangement (trace_state_of lines items).events (numbers_of (blocks (trace_state_of lines items).events order))
 blocks_rearranged lines items order is = (
   are_numbers (length events) (numbers_of (blocks events order)) (numbers_of events) (blocks_apart events one apart order is.0.1) within apart (length-map events (λ (e : Event). e.number)) each,
   blocks events order,
@@ -175,10 +175,10 @@ blocks_rearranged lines items order is = (
 )
   where
     events : List Event
-    events = (walk lines items).events
+    events = (trace_state_of lines items).events
 
-    counted : IsCounted (walk lines items)
-    counted = walk_counted lines items
+    counted : IsCounted (trace_state_of lines items)
+    counted = trace_state_counted lines items
 
     one : (e f : Event) → IsIn e events → IsIn f events → e.number ≡ f.number → e ≡ f
     one e f in_e in_f same = one_of_number 1 events e f counted.numbered in_e in_f same
@@ -200,11 +200,11 @@ blocks_rearranged lines items order is = (
     each k in_numbers =
         let found = of_map (λ (e : Event). e.number) k events in_numbers in
         let begun = counted.begun found.0 found.1 in
-        subst (λ n. IsIn n (numbers_of (blocks events order))) found.2 (in_map (λ (e : Event). e.number) found.0 (blocks events order) (in_blocks events order found.0 found.1 (each_number (walk lines items).transactions order is.0 found.0.transaction begun.0 begun.1)))
+        subst (λ n. IsIn n (numbers_of (blocks events order))) found.2 (in_map (λ (e : Event). e.number) found.0 (blocks events order) (in_blocks events order found.0 found.1 (each_number (trace_state_of lines items).transactions order is.0 found.0.transaction begun.0 begun.1)))
 
 -- So the numbers in order are a serial order of any items with these transactions.
-pub serial_is : (lines : Specification) (items : List Item) (transactions order : List ℕ) → IsOrderOf lines items transactions order → IsSerial (walk lines items).events (in_order transactions order)
+pub serial_is : (lines : Specification) (items : List Item) (transactions order : List ℕ) → IsOrderOf lines items transactions order → IsSerial (trace_state_of lines items).events (in_order transactions order)
 serial_is lines items transactions order is =
-    subst (IsSerial (walk lines items).events)
-    (blocks_numbers (walk lines items).events order (walk_counted lines items).numbered ∙ ap (λ (ts : List ℕ). in_order ts order) is.of_events)
-    (rearrangement_is_serial lines items (numbers_of (blocks (walk lines items).events order)) (blocks_rearranged lines items order is.is_order))
+    subst (IsSerial (trace_state_of lines items).events)
+    (blocks_numbers (trace_state_of lines items).events order (trace_state_counted lines items).numbered ∙ ap (λ (ts : List ℕ). in_order ts order) is.of_events)
+    (rearrangement_is_serial lines items (numbers_of (blocks (trace_state_of lines items).events order)) (blocks_rearranged lines items order is.is_order))

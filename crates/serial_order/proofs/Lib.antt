@@ -1,6 +1,6 @@
 pub mod Members
 pub mod Counts
-pub mod Walks
+pub mod TraceStates
 pub mod Ranks
 pub mod Writes
 pub mod Rearranged

@@ -7,10 +7,10 @@ use Rattle.velodrome.specs.Cycles.{AreAtomic, AreEdgesRound, IsBefore, IsCycle, 
 use Rattle.velodrome.specs.Orders.{IsOrder, NoneLeadsBack}
 use Rattle.velodrome.specs.Rearrangements.{AreInOnePiece, IsRearrangement, KeepsConflicts}
 use Rattle.velodrome.specs.Specification.{Specification}
-use Rattle.velodrome.specs.Transactions.{Event, walk}
+use Rattle.velodrome.specs.Transactions.{Event, trace_state_of}
 use Rattle.serial_order.proofs.Members.{all_in, of_map}
 use Rattle.serial_order.proofs.Counts.{each_number}
-use Rattle.serial_order.proofs.Walks.{IsCounted, numbered_within, one_of_number, walk_counted}
+use Rattle.serial_order.proofs.TraceStates.{IsCounted, numbered_within, one_of_number, trace_state_counted}
 
 -- Each edge leads to a higher rank.
 abbrev pub Rises : List Event → (ℕ → ℕ) → Type 0
@@ -46,17 +46,17 @@ place_rises events (o ∷ order) a b none in_a in_b edge = ⊎_elim
     later c other (inr more) = more
 
 -- If transactions have an order, none are a cycle.
-pub order_leaves_no_cycle : (lines : Specification) (items : List Item) (order : List ℕ) → IsOrder (walk lines items).events (walk lines items).transactions order → AreAtomic (walk lines items).events
-order_leaves_no_cycle lines items order is transactions cycle = no_cycle (walk lines items).events (place order) rises transactions cycle
+pub order_leaves_no_cycle : (lines : Specification) (items : List Item) (order : List ℕ) → IsOrder (trace_state_of lines items).events (trace_state_of lines items).transactions order → AreAtomic (trace_state_of lines items).events
+order_leaves_no_cycle lines items order is transactions cycle = no_cycle (trace_state_of lines items).events (place order) rises transactions cycle
   where
-    counted : IsCounted (walk lines items)
-    counted = walk_counted lines items
+    counted : IsCounted (trace_state_of lines items)
+    counted = trace_state_counted lines items
 
-    placed : (e : Event) (a : ℕ) → IsIn e (walk lines items).events → e.transaction ≡ a → IsIn a order
-    placed e a in_events same = let begun = counted.begun e in_events in subst (λ c. IsIn c order) same (each_number (walk lines items).transactions order is.0 e.transaction begun.0 begun.1)
+    placed : (e : Event) (a : ℕ) → IsIn e (trace_state_of lines items).events → e.transaction ≡ a → IsIn a order
+    placed e a in_events same = let begun = counted.begun e in_events in subst (λ c. IsIn c order) same (each_number (trace_state_of lines items).transactions order is.0 e.transaction begun.0 begun.1)
 
-    rises : Rises (walk lines items).events (place order)
-    rises a b edge = place_rises (walk lines items).events order a b is.1 (placed edge.1 a edge.3.0 edge.3.2) (placed edge.2 b edge.3.1 edge.3.3) edge
+    rises : Rises (trace_state_of lines items).events (place order)
+    rises a b edge = place_rises (trace_state_of lines items).events order a b is.1 (placed edge.1 a edge.3.0 edge.3.2) (placed edge.2 b edge.3.1 edge.3.3) edge
 
 -- ---- The first event of a transaction in a rearrangement
 
@@ -105,20 +105,20 @@ begins_rises (g ∷ serial) e f piece keeps apart in_e in_f before = ⊎_elim
     behind is_f more (inr also) = comes_back f.transaction g e f serial piece keeps.1 is_f refl apart more also before
 
 -- Each event of a trace is in its rearrangement.
-pub stands_in : (lines : Specification) (items : List Item) (numbers : List ℕ) → (r : IsRearrangement (walk lines items).events numbers) → (e : Event) → IsIn e (walk lines items).events → IsIn e r.1
+pub stands_in : (lines : Specification) (items : List Item) (numbers : List ℕ) → (r : IsRearrangement (trace_state_of lines items).events numbers) → (e : Event) → IsIn e (trace_state_of lines items).events → IsIn e r.1
 stands_in lines items numbers r e in_events =
-    let counted = walk_counted lines items in
-    let within = numbered_within 1 (walk lines items).events e counted.numbered in_events in
+    let counted = trace_state_counted lines items in
+    let within = numbered_within 1 (trace_state_of lines items).events e counted.numbered in_events in
     let low = within.0 in
     let high = within.1 in
-    let told = each_number (length (walk lines items).events) numbers r.0 e.number (omega arith) (omega arith) in
+    let told = each_number (length (trace_state_of lines items).events) numbers r.0 e.number (omega arith) (omega arith) in
     let found = of_map (λ (f : Event). f.number) e.number r.1 (subst (λ xs. IsIn e.number xs) (sym r.2) told) in
-    let same = one_of_number 1 (walk lines items).events found.0 e counted.numbered (all_in (λ f. IsIn f (walk lines items).events) r.1 found.0 r.3 found.1) in_events found.2 in
+    let same = one_of_number 1 (trace_state_of lines items).events found.0 e counted.numbered (all_in (λ f. IsIn f (trace_state_of lines items).events) r.1 found.0 r.3 found.1) in_events found.2 in
     subst (λ (f : Event). IsIn f r.1) same found.1
 
 -- If transactions are a cycle, there is no rearrangement.
-pub cycle_has_no_rearrangement : (lines : Specification) (items : List Item) (transactions numbers : List ℕ) → IsCycle (walk lines items).events transactions → IsRearrangement (walk lines items).events numbers → ⊥
-cycle_has_no_rearrangement lines items transactions numbers cycle r = no_cycle (walk lines items).events (begins r.1) rises transactions cycle
+pub cycle_has_no_rearrangement : (lines : Specification) (items : List Item) (transactions numbers : List ℕ) → IsCycle (trace_state_of lines items).events transactions → IsRearrangement (trace_state_of lines items).events numbers → ⊥
+cycle_has_no_rearrangement lines items transactions numbers cycle r = no_cycle (trace_state_of lines items).events (begins r.1) rises transactions cycle
   where
-    rises : Rises (walk lines items).events (begins r.1)
+    rises : Rises (trace_state_of lines items).events (begins r.1)
     rises a b edge = subst (λ c. begins r.1 c < begins r.1 b) edge.3.2 (subst (λ c. begins r.1 edge.1.transaction < begins r.1 c) edge.3.3 (begins_rises r.1 edge.1 edge.2 r.5 r.4 (λ same. edge.0 (sym edge.3.2 ∙ same ∙ edge.3.3)) (stands_in lines items numbers r edge.1 edge.3.0) (stands_in lines items numbers r edge.2 edge.3.1) edge.3.4))

@@ -4,12 +4,12 @@ use Rattle.jvms_machine.specs.declared.trace.Item.{Item}
 use Rattle.velodrome.specs.Orders.{IsOrder}
 use Rattle.velodrome.specs.Rearrangements.{IsSerial}
 use Rattle.velodrome.specs.Specification.{Specification}
-use Rattle.velodrome.specs.Transactions.{walk}
+use Rattle.velodrome.specs.Transactions.{trace_state_of}
 
 -- The transactions are those of the events of the items, and `order` is an order of all of them.
 pub record IsOrderOf (lines : Specification) (items : List Item) (transactions order : List ℕ) : Type 0 where
-  pub of_events : map (λ e. e.transaction) (walk lines items).events ≡ transactions
-  pub is_order : IsOrder (walk lines items).events (walk lines items).transactions order
+  pub of_events : map (λ e. e.transaction) (trace_state_of lines items).events ≡ transactions
+  pub is_order : IsOrder (trace_state_of lines items).events (trace_state_of lines items).transactions order
 
 -- Some items have these transactions and this order.
 abbrev pub HasItems : List ℕ → List ℕ → Type 0
@@ -18,4 +18,4 @@ HasItems transactions order = (lines : Specification) × (items : List Item) × 
 -- The numbers are a serial order of the events of any items with these transactions and this order.
 abbrev pub AreSerialOf : List ℕ → List ℕ → List ℕ → Type 0
 AreSerialOf transactions order numbers =
-    (lines : Specification) (items : List Item) → IsOrderOf lines items transactions order → IsSerial (walk lines items).events numbers
+    (lines : Specification) (items : List Item) → IsOrderOf lines items transactions order → IsSerial (trace_state_of lines items).events numbers

@@ -6,7 +6,7 @@ ghost use Rattle.velodrome.specs.Cycles.{AreAtomic, IsCycle};
 ghost use Rattle.velodrome.specs.Orders.{IsOrder};
 ghost use Rattle.velodrome.specs.Rearrangements.{IsRearrangement, IsSerial};
 ghost use Rattle.velodrome.specs.Specification.{Specification};
-ghost use Rattle.velodrome.specs.Transactions.{Event, TraceState, walk};
+ghost use Rattle.velodrome.specs.Transactions.{Event, TraceState, trace_state_of};
 ghost use Rattle.velodrome.specs.Verdicts.{IsVerdict};
 ghost use Rattle.velodrome.specs.declared.verdict.ConflictingPair.{ConflictingPair};
 ghost use Rattle.velodrome.specs.declared.verdict.Verdict.TheVariants as verdict;
@@ -20,22 +20,23 @@ pub fn a_serial_order_is_a_rearrangement()
 /// Proves that each rearrangement of a trace is a serial order: each read has its write.
 pub fn a_rearrangement_is_a_serial_order()
     ensures { (lines : Specification) (items : List Item) (numbers : List ℕ)
-        → IsRearrangement (walk lines items).events numbers
-        → IsSerial (walk lines items).events numbers }
+        → IsRearrangement (trace_state_of lines items).events numbers
+        → IsSerial (trace_state_of lines items).events numbers }
 {}
 
 /// Proves that a trace with a cycle of transactions has no rearrangement.
 pub fn a_cycle_has_no_rearrangement()
     ensures { (lines : Specification) (items : List Item) (transactions numbers : List ℕ)
-        → IsCycle (walk lines items).events transactions
-        → IsRearrangement (walk lines items).events numbers → ⊥ }
+        → IsCycle (trace_state_of lines items).events transactions
+        → IsRearrangement (trace_state_of lines items).events numbers → ⊥ }
 {}
 
 /// Proves that a trace whose transactions have an order has no cycle.
 pub fn an_order_leaves_no_cycle()
     ensures { (lines : Specification) (items : List Item) (order : List ℕ)
-        → IsOrder (walk lines items).events (walk lines items).transactions order
-        → AreAtomic (walk lines items).events }
+        → IsOrder (trace_state_of lines items).events
+        (trace_state_of lines items).transactions order
+        → AreAtomic (trace_state_of lines items).events }
 {}
 
 /// Proves that no trace has both verdicts, and that all verdicts of a cycle name the same number of events.

@@ -8,13 +8,13 @@ use std::marker::Model;
 /// A boxed value. Contracts see the value itself.
 #[derive(Debug, Drop)]
 pub struct Boxed<T> {
-    held: Box<T>,
+    inner: Box<T>,
 }
 
 impl<T> Model for Boxed<T> {
     ghost Value = { T };
 
-    ghost view = { λ b. b.held.value };
+    ghost view = { λ b. b.inner.value };
 }
 
 impl<T> Boxed<T> {
@@ -25,7 +25,7 @@ impl<T> Boxed<T> {
         ensures { IfOk result (λ b. b ≡ value) }
     {
         Ok(Boxed {
-            held: Box::new(alloc, value)?,
+            inner: Box::new(alloc, value)?,
         })
     }
 
@@ -33,7 +33,7 @@ impl<T> Boxed<T> {
     pub fn get(&self) -> &T
         ensures { result.now ≡ self.now }
     {
-        &*self.held
+        &*self.inner
     }
 }
 

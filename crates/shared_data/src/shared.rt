@@ -10,7 +10,7 @@ use std::sync::Arc;
 /// A reference-counted value that any threads may share. Contracts see the value itself.
 #[derive(Debug, Drop)]
 pub struct Shared<T> {
-    held: Arc<T, Global>,
+    inner: Arc<T, Global>,
 }
 
 /// A shared text of UTF-16 code units, such as a name or a descriptor.
@@ -19,7 +19,7 @@ pub type Text = Shared<Items<u16>>;
 impl<T> Model for Shared<T> {
     ghost Value = { T };
 
-    ghost view = { λ s. s.held.value };
+    ghost view = { λ s. s.inner.value };
 }
 
 impl<T> Shared<T> {
@@ -30,7 +30,7 @@ impl<T> Shared<T> {
         ensures { IfOk result (λ s. s ≡ value) }
     {
         Ok(Shared {
-            held: Arc::new(alloc, value)?,
+            inner: Arc::new(alloc, value)?,
         })
     }
 
@@ -38,7 +38,7 @@ impl<T> Shared<T> {
     pub fn get(&self) -> &T
         ensures { result.now ≡ self.now }
     {
-        &*self.held
+        &*self.inner
     }
 
     /// Clones the reference to the value.
@@ -46,7 +46,7 @@ impl<T> Shared<T> {
         ensures { IfOk result (λ s. s ≡ self.now) }
     {
         Ok(Shared {
-            held: Arc::try_clone(&self.held)?,
+            inner: Arc::try_clone(&self.inner)?,
         })
     }
 }

@@ -22,7 +22,7 @@ use Rattle.jasmin.specs.declared.statement.Statement.{Statement}
 use Rattle.jasmin.specs.declared.statement.Statement.TheVariants as statement
 use Rattle.jasmin.specs.declared.reading.Part.TheVariants as part
 use Rattle.jasmin.specs.declared.reading.Reading.{Reading}
-use Rattle.jasmin.specs.Judgements.{Judged, said, asked}
+use Rattle.jasmin.specs.Judgements.{Judged, map_ok, judge_test}
 use Rattle.jasmin.specs.Operands.{exactly, word_at, class_name_at, class_at, before_descriptor, descriptor_of, i32_at, i64_at, class_words, field_words, method_words, flags_in, access_words}
 use Rattle.jasmin.specs.Statements.{bytecode_line, source_line, but_last, last_of, class_line, super_line, implements_line, field_head, field_tail, is_long, is_int_type, is_string_type, int_constant, constant_at, constant_in, word_or_none, field_access, field_name_at, field_line, is_permitted, method_head_at, method_line, end_line, limit_line, catch_line, throws_line, line_line, var_line, directive_line, instruction_line, table_line, label_after_colon, rising_at, match_line, case_line, default_line, label_line, statement_of}
 use Rattle.jasmin.specs.Reading.{switch_of, sort_of, part_of, has_no_switch, is_placed, has_labels, is_in_place}
@@ -58,7 +58,7 @@ implements_formed r switch ts s placed e =
 
 constant_formed : (descriptor : List ℕ) (t : Option Lexeme) (c : FieldConstant) → constant_at descriptor t ≡ Ok c → IsFormedValue descriptor (Some c)
 constant_formed descriptor (Some (lexeme.Word w)) c e =
-    choose (is_long descriptor) (said (λ n. constant.Long n) (i64_at (Some (lexeme.Word w)))) (int_constant descriptor (i32_at (Some (lexeme.Word w)))) (Ok c) e
+    choose (is_long descriptor) (map_ok (λ n. constant.Long n) (i64_at (Some (lexeme.Word w)))) (int_constant descriptor (i32_at (Some (lexeme.Word w)))) (Ok c) e
     (λ long is. said_gives (λ (d : FieldConstant). IsFormedValue descriptor (Some d)) (λ (n : ℤ). constant.Long n) (i64_at (Some (lexeme.Word w))) c is (λ n f.
     (long, i64_signed (Some (lexeme.Word w)) n f)))
     (λ other is. int_formed (i32_at (Some (lexeme.Word w))) refl is)
@@ -101,7 +101,7 @@ field_formed r switch ts s e =
 head_formed : (class_access access : ℕ) (j : Judged (List ℕ)) (p : List ℕ × List ℕ) → IsU2 access → method_head_at (sort_of class_access) access j ≡ Ok p → IsFormedHead (is_interface class_access) access p.0 p.1
 head_formed class_access access (Ok w) p small e =
     let n = before_descriptor w in
-    let all = unless_is _ (asked (is_permitted (sort_of class_access) access n) flaw.Flags) p e in
+    let all = unless_is _ (judge_test (is_permitted (sort_of class_access) access n) flaw.Flags) p e in
     let two = both_are _ _ p all.0 in
     let name = tested_is is_method_name flaw.Name (Ok n) p.0 two.0 in
     let same = same_ok n p.0 name.0 in
@@ -191,7 +191,7 @@ table_formed : (r : Reading) (next : ℤ) (ts : List Lexeme) (s : Statement) →
 unfolding table_line
 table_formed r next ts s e =
     said_gives (IsFormedStatement r (open_switch.Table next)) (λ (label : List ℕ). statement.TableLabel label) _ s e (λ label is.
-    asked_is (int_le next (pos 2147483647)) flaw.Number tt (unless_is _ (asked (int_le next (pos 2147483647)) flaw.Number) label is).1)
+    asked_is (int_le next (pos 2147483647)) flaw.Number tt (unless_is _ (judge_test (int_le next (pos 2147483647)) flaw.Number) label is).1)
 
 rising_is : (last : Option ℤ) (j : Judged ℤ) (n : ℤ) → rising_at last j ≡ Ok n → (j ≡ Ok n) × IsTrue (is_above last n)
 rising_is last (Ok m) n e =

@@ -19,7 +19,7 @@ use Rattle.jasmin.specs.declared.statement.Instruction.TheVariants as instructio
 use Rattle.jasmin.specs.declared.reading.SwitchLines.{SwitchLines}
 use Rattle.jasmin.specs.declared.reading.SwitchLines.TheVariants as switch_lines
 use Rattle.jasmin.specs.declared.reading.OpenMethod.{OpenMethod}
-use Rattle.jasmin.specs.Reading.{last_value, switch_of_lines, has_labels, is_method_like, with_throws, with_catch, with_item, with_instruction, with_table_label, with_match, closed_switch, opened, ended}
+use Rattle.jasmin.specs.Reading.{last_value, switch_of_lines, has_labels, is_method_like, with_throws, with_catch, with_item, with_instruction, with_table_label, with_match, closed_switch, new_method, method_lines_of}
 use Rattle.source_form_laws.specs.Formed.{IsSigned, IsClassOrArray, IsFormedCaught, IsFormedItem, IsFormedLookup, IsFormedOperation, IsFormedMethodLines}
 use Rattle.source_form_laws.proofs.Lists.{one_more}
 use Rattle.source_form_laws.proofs.Operations.{IsFormedInstruction}
@@ -49,7 +49,7 @@ pub record IsFormedOpen (interface : Bool) (methods : List MethodLines) (m : Ope
 
 -- ---- Its first and its last line
 
-pub opened_formed : (interface : Bool) (methods : List MethodLines) (access : ℕ) (name descriptor : List ℕ) → IsFormedHead interface access name descriptor → list_any (is_method_like name descriptor) methods ≡ false → IsFormedOpen interface methods (opened access name descriptor)
+pub opened_formed : (interface : Bool) (methods : List MethodLines) (access : ℕ) (name descriptor : List ℕ) → IsFormedHead interface access name descriptor → list_any (is_method_like name descriptor) methods ≡ false → IsFormedOpen interface methods (new_method access name descriptor)
 opened_formed interface methods access name descriptor head fresh =
     record { head = head; fresh = fresh; throws = tt; max_stack = tt; max_locals = tt; catches = tt; code = tt; switch = tt }
 
@@ -57,7 +57,7 @@ limit_small : (o : Option ℕ) → IfThere IsU2 o → IsU2 (unwrap_or o 1)
 limit_small None small = omega arith
 limit_small (Some n) small = small
 
-pub ended_formed : (interface : Bool) (methods : List MethodLines) (m : OpenMethod) → IsFormedOpen interface methods m → IsFormedMethodLines interface (ended m)
+pub ended_formed : (interface : Bool) (methods : List MethodLines) (m : OpenMethod) → IsFormedOpen interface methods m → IsFormedMethodLines interface (method_lines_of m)
 ended_formed interface methods m h = record {
   access = h.head.small;
   name = h.head.named;

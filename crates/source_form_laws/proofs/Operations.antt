@@ -27,7 +27,7 @@ use Rattle.jasmin.specs.declared.source.Operation.TheVariants as operation
 use Rattle.jasmin.specs.declared.statement.Flaw.TheVariants as flaw
 use Rattle.jasmin.specs.declared.statement.Instruction.{Instruction}
 use Rattle.jasmin.specs.declared.statement.Instruction.TheVariants as instruction
-use Rattle.jasmin.specs.Judgements.{Judged, asked}
+use Rattle.jasmin.specs.Judgements.{Judged, judge_test}
 use Rattle.jasmin.specs.Numerals.{number_of}
 use Rattle.jasmin.specs.Operands.{exactly, word_at, class_at, class_of, name_of, is_member, before_descriptor, descriptor_of, label_at, u8_at, u16_at, i8_at, i16_at, i32_at, i64_at, array_type_at}
 use Rattle.jasmin.specs.Statements.{word_or_none, whole, alone, loaded_word, loaded_at, constant_operation, increment_operation, branch_operation, field_operation, named_method, method_at, is_count, counted_at, operands_after_method, invoke_operation, is_usable_word, class_operation, new_array_operation, dimensions_at, multi_new_array_operation, instruction_with, instruction_line}
@@ -104,7 +104,7 @@ record IsNamed (how : Invoke) (w : List ℕ) (p : List ℕ × List ℕ) : Type 0
 
 named_is : (how : Invoke) (w : List ℕ) (p : List ℕ × List ℕ) → named_method how w ≡ Ok p → IsNamed how w p
 named_is how w p e =
-    let all = unless_is _ (asked (is_invocable_name how (name_of (before_descriptor w))) flaw.Operand) p e in
+    let all = unless_is _ (judge_test (is_invocable_name how (name_of (before_descriptor w))) flaw.Operand) p e in
     let two = both_are _ _ p all.0 in
     let name = tested_is (is_member is_method_name) flaw.Name (Ok (before_descriptor w)) p.0 two.0 in
     let described = tested_is (is_method_descriptor_for true) flaw.Descriptor (Ok (descriptor_of w)) p.1 two.1 in
@@ -163,7 +163,7 @@ unfolding class_operation IsFormedOperation
 class_formed how ts o e =
     said_gives IsFormedOperation (λ (name : List ℕ). operation.Class how name) _ o e (λ name is.
     let w = word_or_none (slice_get ts 0) in
-    let all = unless_is (class_at (slice_get ts 0)) (asked (is_usable_word how w) flaw.Operand) name (unless_is _ _ name is).0 in
+    let all = unless_is (class_at (slice_get ts 0)) (judge_test (is_usable_word how w) flaw.Operand) name (unless_is _ _ name is).0 in
     let class = class_is (slice_get ts 0) name all.0 in
     let word = subst (λ (v : List ℕ). IsTrue (is_usable_word how v)) class.0 (asked_is (is_usable_word how w) flaw.Operand tt all.1) in
     (class.1, usable how name class.1 word))

@@ -16,7 +16,7 @@ use Rattle.jasmin.specs.declared.reading.Part.{Part}
 use Rattle.jasmin.specs.declared.reading.Part.TheVariants as part
 use Rattle.jasmin.specs.declared.reading.OpenMethod.{OpenMethod}
 use Rattle.jasmin.specs.declared.reading.Reading.{Reading}
-use Rattle.jasmin.specs.Reading.{switch_of, switch_of_method, rank, is_in_order, is_placed, has_labels, is_field_like, is_method_like, is_repeated, in_method, with_throws, with_catch, with_item, with_instruction, with_table_label, with_match, closed_switch, opened, ended, with_method, with_statement}
+use Rattle.jasmin.specs.Reading.{switch_of, switch_of_method, rank, is_in_order, is_placed, has_labels, is_field_like, is_method_like, is_repeated, in_method, with_throws, with_catch, with_item, with_instruction, with_table_label, with_match, closed_switch, new_method, method_lines_of, with_method, with_statement}
 use Rattle.source_form_laws.specs.Formed.{IsFormedFieldLine, IsFormedMethodLines}
 use Rattle.source_form_laws.proofs.Lists.{one_more, one_more_distinct}
 use Rattle.source_form_laws.proofs.Statements.{IsNext, IsRising, IsPlaced, IsFormedStatement}
@@ -96,7 +96,7 @@ field_kept r f h formed fresh =
     let all : AreFields (r.fields ++ f ∷ []) = record { formed = one_more IsFormedFieldLine r.fields f h.fields.formed formed; distinct = one_more_distinct same_field r.fields f h.fields.distinct fresh } in
     record { access = h.access; name = h.name; superclass = h.superclass; interfaces = h.interfaces; fields = all; methods = h.methods; before = tt; open_method = h.open_method }
 
-method_begun : (r : Reading) (access : ℕ) (name descriptor : List ℕ) → IsFormedReading r → IsFormedOpen (is_interface r.access) r.methods (opened access name descriptor) → IsFormedReading (record r { part = part.Members; method = Some (opened access name descriptor) })
+method_begun : (r : Reading) (access : ℕ) (name descriptor : List ℕ) → IsFormedReading r → IsFormedOpen (is_interface r.access) r.methods (new_method access name descriptor) → IsFormedReading (record r { part = part.Members; method = Some (new_method access name descriptor) })
 method_begun r access name descriptor h formed =
     record { access = h.access; name = h.name; superclass = h.superclass; interfaces = h.interfaces; fields = h.fields; methods = h.methods; before = tt; open_method = formed }
 
@@ -109,11 +109,11 @@ method_ended r None is h = h
 method_ended r (Some m) is h =
     let interface = is_interface r.access in
     let formed : IsFormedOpen interface r.methods m = subst (IfThere (IsFormedOpen interface r.methods)) is h.open_method in
-    let all : AreMethods interface (r.methods ++ ended m ∷ []) = record {
-      formed = one_more (IsFormedMethodLines interface) r.methods (ended m) h.methods.formed (ended_formed interface r.methods m formed);
-      distinct = one_more_distinct same_method r.methods (ended m) h.methods.distinct formed.fresh;
+    let all : AreMethods interface (r.methods ++ method_lines_of m ∷ []) = record {
+      formed = one_more (IsFormedMethodLines interface) r.methods (method_lines_of m) h.methods.formed (ended_formed interface r.methods m formed);
+      distinct = one_more_distinct same_method r.methods (method_lines_of m) h.methods.distinct formed.fresh;
     } in
-    record { access = h.access; name = h.name; superclass = h.superclass; interfaces = h.interfaces; fields = h.fields; methods = all; before = before_end r.part r.methods (r.methods ++ ended m ∷ []) r.method m is h.before; open_method = tt }
+    record { access = h.access; name = h.name; superclass = h.superclass; interfaces = h.interfaces; fields = h.fields; methods = all; before = before_end r.part r.methods (r.methods ++ method_lines_of m ∷ []) r.method m is h.before; open_method = tt }
 
 -- ---- Within a method
 

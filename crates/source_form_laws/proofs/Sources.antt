@@ -12,10 +12,10 @@ use Rattle.jasmin.specs.declared.reading.OpenMethod.{OpenMethod}
 use Rattle.jasmin.specs.declared.reading.Reading.{Reading}
 use Rattle.jasmin.specs.Lexing.{tokens_of, lexemes}
 use Rattle.jasmin.specs.Sources.{units_of}
-use Rattle.jasmin.specs.Judgements.{Judged, asked}
+use Rattle.jasmin.specs.Judgements.{Judged, judge_test}
 use Rattle.jasmin.specs.LineKinds.{kind_of}
 use Rattle.jasmin.specs.Statements.{statement_of}
-use Rattle.jasmin.specs.Reading.{switch_of, sort_of, is_in_place, is_repeated, with_statement, added, placed, with_lexemes, with_line, empty_reading, at_line, with_lines, last_line, finished, source_of}
+use Rattle.jasmin.specs.Reading.{switch_of, sort_of, is_in_place, is_repeated, with_statement, judge_statement, judge_line, with_lexemes, with_line, empty_reading, at_line, with_lines, last_line, source_of_reading, source_of}
 use Rattle.source_form_laws.specs.Formed.{IsFormed}
 use Rattle.source_form_laws.proofs.Judged.{same_ok, choose, asked_is}
 use Rattle.source_form_laws.proofs.Lines.{statement_formed}
@@ -29,15 +29,15 @@ step (Err d) f y e next = absurd cc
 
 -- ---- A line
 
-added_kept : (r t : Reading) (s : Statement) → IsFormedReading r → (is_repeated r s ≡ false → IsFormedReading (with_statement r s)) → added r s ≡ Ok t → IsFormedReading t
+added_kept : (r t : Reading) (s : Statement) → IsFormedReading r → (is_repeated r s ≡ false → IsFormedReading (with_statement r s)) → judge_statement r s ≡ Ok t → IsFormedReading t
 added_kept r t s h kept e =
     choose (is_repeated r s) (Err flaw.Repeated) (Ok (with_statement r s)) (Ok t) e
     (λ again is. absurd cc)
     (λ once is. subst IsFormedReading (same_ok (with_statement r s) t is) (kept once))
 
-placed_kept : (r t : Reading) (k : LineKind) (ts : List Lexeme) → IsFormedReading r → placed r k ts ≡ Ok t → IsFormedReading t
+placed_kept : (r t : Reading) (k : LineKind) (ts : List Lexeme) → IsFormedReading r → judge_line r k ts ≡ Ok t → IsFormedReading t
 placed_kept r t k ts h e =
-    step (asked (is_in_place r k) flaw.OutOfPlace) _ t e (λ u here more.
+    step (judge_test (is_in_place r k) flaw.OutOfPlace) _ t e (λ u here more.
     let in_place = asked_is (is_in_place r k) flaw.OutOfPlace u here in
     step (statement_of (sort_of r.access) (switch_of r) k ts) _ t more (λ s says last.
     let formed = statement_formed r k ts s in_place says in
@@ -85,7 +85,7 @@ superclass_named : (o : Option (List ℕ)) → IfThere IsClassName o → IsClass
 superclass_named None named = refl
 superclass_named (Some name) named = named
 
-parts_formed : (last : ℕ) (r : Reading) (s : Source) (name : Option (List ℕ)) (method : Option OpenMethod) → IsFormedReading (record r { name = name; method = method }) → finished last (record r { name = name; method = method }) ≡ Ok s → IsFormed s
+parts_formed : (last : ℕ) (r : Reading) (s : Source) (name : Option (List ℕ)) (method : Option OpenMethod) → IsFormedReading (record r { name = name; method = method }) → source_of_reading last (record r { name = name; method = method }) ≡ Ok s → IsFormed s
 parts_formed last r s (Some name) None h e = subst IsFormed (same_ok _ s e) (record {
   access = h.access;
   name = h.name;

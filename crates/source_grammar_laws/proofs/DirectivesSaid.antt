@@ -19,10 +19,10 @@ use Rattle.jasmin.specs.declared.statement.ClassSort.{ClassSort}
 use Rattle.jasmin.specs.declared.statement.ClassSort.TheVariants as sort
 use Rattle.jasmin.specs.declared.statement.Statement.{Statement}
 use Rattle.jasmin.specs.declared.statement.Statement.TheVariants as statement
-use Rattle.jasmin.specs.Judgements.{Judged, both, said, asked}
+use Rattle.jasmin.specs.Judgements.{Judged, both, map_ok, judge_test}
 use Rattle.jasmin.specs.Numerals.{is_version}
 use Rattle.jasmin.specs.LineKinds.{directive_named}
-use Rattle.jasmin.specs.Operands.{exactly, word_at, tested, keyword_at, name_at, class_name_at, class_at, field_descriptor_at, label_at, i32_at, i64_at, u16_at, before_descriptor, descriptor_of, class_words, field_words, method_words, flags_in, access_words, caught_at}
+use Rattle.jasmin.specs.Operands.{exactly, word_at, word_if, keyword_at, name_at, class_name_at, class_at, field_descriptor_at, label_at, i32_at, i64_at, u16_at, before_descriptor, descriptor_of, class_words, field_words, method_words, flags_in, access_words, caught_at}
 use Rattle.jasmin.specs.Statements.{version_at, bytecode_line, file_at, source_line, but_last, last_of, class_line, super_line, implements_line, field_head, field_tail, is_long, is_int_type, is_string_type, int_constant, constant_at, constant_in, word_or_none, field_access, field_name_at, field_line, is_permitted, method_head_at, method_line, end_line, limit_at, limit_line, label_after, catch_line, throws_line, line_line, var_line, directive_line}
 use Rattle.source_form_laws.proofs.Judged.{same_ok, choose, said_gives, both_are, unless_is, asked_is, tested_is}
 use Rattle.source_grammar_laws.specs.Numbers.{SpellsNumber, SpellsSigned, SpellsVersion}
@@ -212,7 +212,7 @@ int_type_said d e =
 
 constant_said : (descriptor : List ℕ) (o : Option Lexeme) (c : FieldConstant) (ts : List Lexeme) → constant_at descriptor o ≡ Ok c → ((t : Lexeme) → o ≡ Some t → ts ≡ t ∷ []) → SpellsValue descriptor (lexeme.Equals ∷ ts) (Some c)
 constant_said descriptor (Some (lexeme.Word w)) c ts e alone =
-    choose (is_long descriptor) (said (λ n. constant.Long n) (i64_at (Some (lexeme.Word w)))) (int_constant descriptor (i32_at (Some (lexeme.Word w)))) (Ok c) e
+    choose (is_long descriptor) (map_ok (λ n. constant.Long n) (i64_at (Some (lexeme.Word w)))) (int_constant descriptor (i32_at (Some (lexeme.Word w)))) (Ok c) e
     (λ long is. said_gives (λ (d : FieldConstant). SpellsValue descriptor (lexeme.Equals ∷ ts) (Some d)) (λ (n : ℤ). constant.Long n) (i64_at (Some (lexeme.Word w))) c is (λ n f.
     (w, whole, text_is descriptor (codes "J") long, word_number 63 w n (number_place_said (neg_ℤ (pos (2 ^ 63))) (pos (2 ^ 63 - 1)) (Some (lexeme.Word w)) n f))))
     (λ other is. int_said (i32_at (Some (lexeme.Word w))) refl is)
@@ -278,7 +278,7 @@ record IsHead (sort : ClassSort) (access : ℕ) (w : List ℕ) (p : List ℕ × 
 head_said : (sort : ClassSort) (access : ℕ) (w : List ℕ) (p : List ℕ × List ℕ) → method_head_at sort access (Ok w) ≡ Ok p → IsHead sort access w p
 head_said sort access w p e =
     let n = before_descriptor w in
-    let all = unless_is _ (asked (is_permitted sort access (before_descriptor w)) flaw.Flags) p e in
+    let all = unless_is _ (judge_test (is_permitted sort access (before_descriptor w)) flaw.Flags) p e in
     let two = both_are _ _ p all.0 in
     let name = tested_is is_method_name flaw.Name (Ok (before_descriptor w)) p.0 two.0 in
     let front = same_ok (before_descriptor w) p.0 name.0 in
@@ -341,7 +341,7 @@ limit_by w false is e = sym (text_is (codes "locals") w e)
 
 limit_place : (o : Option Lexeme) (stack : Bool) → limit_at o ≡ Ok stack → o ≡ Some (lexeme.Word (limit_word stack))
 limit_place o stack e =
-    said_gives (λ (b : Bool). o ≡ Some (lexeme.Word (limit_word b))) (λ (w : List ℕ). same_text (codes "stack") w) (tested (λ w. same_text (codes "stack") w || same_text (codes "locals") w) flaw.Operand (word_at o)) stack e (λ w is.
+    said_gives (λ (b : Bool). o ≡ Some (lexeme.Word (limit_word b))) (λ (w : List ℕ). same_text (codes "stack") w) (word_if (λ w. same_text (codes "stack") w || same_text (codes "locals") w) flaw.Operand (word_at o)) stack e (λ w is.
     let both = place_said (λ v. same_text (codes "stack") v || same_text (codes "locals") v) flaw.Operand o w is in
     both.0 ∙ ap (λ (v : List ℕ). Some (lexeme.Word v)) (limit_by w (same_text (codes "stack") w) refl both.1))
 
@@ -417,7 +417,7 @@ var_said ts s e =
 abbrev IsFree : Statement → Type 0
 IsFree s = (sort : ClassSort) (switch : OpenSwitch) → Suits sort switch s
 
-free_of : {A : Type 0} (make : A → Statement) (j : Judged A) (s : Statement) → said make j ≡ Ok s → ((x : A) → IsFree (make x)) → IsFree s
+free_of : {A : Type 0} (make : A → Statement) (j : Judged A) (s : Statement) → map_ok make j ≡ Ok s → ((x : A) → IsFree (make x)) → IsFree s
 free_of make j s e each = said_gives IsFree make j s e (λ x is. each x)
 
 limit_free : (stack : Bool) (n : ℕ) → IsFree (cond stack (statement.MaxStack n) (statement.MaxLocals n))

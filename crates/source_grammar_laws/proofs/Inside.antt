@@ -21,7 +21,7 @@ use Rattle.jasmin.specs.declared.reading.SwitchLines.TheVariants as switch_lines
 use Rattle.jasmin.specs.declared.reading.OpenMethod.{OpenMethod}
 use Rattle.jasmin.specs.declared.reading.Reading.{Reading}
 use Rattle.jasmin.specs.Denote.{has_code}
-use Rattle.jasmin.specs.Reading.{last_value, is_repeated, with_item, opened, ended, with_statement}
+use Rattle.jasmin.specs.Reading.{last_value, is_repeated, with_item, new_method, method_lines_of, with_statement}
 use Rattle.source_grammar_laws.specs.Lines.{IsPermitted, Suits}
 use Rattle.source_grammar_laws.specs.Sources.{sort_of, IsDirective, AreRising, MakesItem, MakesCode, is_label_item, MakesMethod, Member, is_field, is_method, MakesMembers, fields_in, methods_in}
 use Rattle.source_grammar_laws.proofs.Steps.{Admits, Runs, IsWhole, IsApart}
@@ -112,7 +112,7 @@ field_said ss r t f h =
       methods_are = h.methods_are;
     }
 
-made_method : (access : ℕ) (name descriptor : List ℕ) (body : List Statement) (items : List CodeItem) (lines : MethodLines) → MakesCode body items → IsFilled (opened access name descriptor) body items lines → MakesMethod body lines
+made_method : (access : ℕ) (name descriptor : List ℕ) (body : List Statement) (items : List CodeItem) (lines : MethodLines) → MakesCode body items → IsFilled (new_method access name descriptor) body items lines → MakesMethod body lines
 made_method access name descriptor body items lines code h = (
   subst (λ (is : List CodeItem). MakesCode body is) (sym h.items_are) code,
   h.throws,
@@ -126,7 +126,7 @@ made_method access name descriptor body items lines code h = (
     takes e f g is = rw (← e, ← f, ← g) is
 
 method_said : (ss : List Statement) (r t : Reading) (access : ℕ) (name descriptor : List ℕ) → IsPermitted (sort_of r.access) access name
-    → RestMethod r (opened access name descriptor) ss t → RestMembers r.access r.fields r.methods (statement.Method access name descriptor ∷ ss) t
+    → RestMethod r (new_method access name descriptor) ss t → RestMembers r.access r.fields r.methods (statement.Method access name descriptor ∷ ss) t
 method_said ss r t access name descriptor permitted h =
     record {
       members = is_method h.lines ∷ h.rest.members;
@@ -147,7 +147,7 @@ outside_step (statement.Field f) ss r t is a runs later =
     let h = later (record r { fields = r.fields ++ f ∷ [] }) None runs in
     (field_said ss r t f h.0, record { access = h.1.access; name = h.1.name; superclass = h.1.superclass; interfaces = h.1.interfaces })
 outside_step (statement.Method access name descriptor) ss r t is a runs later =
-    let h = later r (Some (opened access name descriptor)) runs in
+    let h = later r (Some (new_method access name descriptor)) runs in
     (method_said ss r t access name descriptor a.suits h.0, h.1)
 outside_step (statement.TableLabel label) ss r t is a runs later = let e = a.suits.1 in absurd cc
 outside_step (statement.Match m) ss r t is a runs later = let e = a.suits.1 in absurd cc
@@ -173,7 +173,7 @@ no_limit : (o : Option ℕ) → IsLimitBehind o [] (unwrap_or o 1)
 no_limit None = refl
 no_limit (Some n) = refl
 
-ended_said : (m : OpenMethod) → IsFilled m [] [] (ended m)
+ended_said : (m : OpenMethod) → IsFilled m [] [] (method_lines_of m)
 ended_said m = record {
   access = refl;
   name = refl;
@@ -186,8 +186,8 @@ ended_said m = record {
   takes = or_true (has_code m.name m.access);
 }
 
-end_said : (ss : List Statement) (r t : Reading) (m : OpenMethod) → RestMembers r.access r.fields (r.methods ++ ended m ∷ []) ss t → RestMethod r m (statement.EndMethod ∷ ss) t
-end_said ss r t m h = record { lines = ended m; body = []; behind = ss; items = []; whole = refl; code = tt; filled = ended_said m; rest = h }
+end_said : (ss : List Statement) (r t : Reading) (m : OpenMethod) → RestMembers r.access r.fields (r.methods ++ method_lines_of m ∷ []) ss t → RestMethod r m (statement.EndMethod ∷ ss) t
+end_said ss r t m h = record { lines = method_lines_of m; body = []; behind = ss; items = []; whole = refl; code = tt; filled = ended_said m; rest = h }
 
 directive_said : (d : Statement) (ss : List Statement) (r t : Reading) (m : OpenMethod) → IsDirective d → IsFresh d m → RestMethod r (changed d m) ss t → RestMethod r m (d ∷ ss) t
 directive_said d ss r t m is fresh h =
@@ -251,8 +251,8 @@ kept_from r methods t h = record { access = h.access; name = h.name; superclass 
 plain_step : (s : Statement) (ss : List Statement) (r t : Reading) (m : OpenMethod) → IsApart s → Admits (at r (Some (plain m))) s → Runs (with_statement (at r (Some (plain m))) s) ss t → Later ss t → RestMethod r (plain m) (s ∷ ss) t × IsKept r t
 unfolding Suits is_repeated with_statement
 plain_step statement.EndMethod ss r t m is a runs later =
-    let h = later (record r { methods = r.methods ++ ended (plain m) ∷ [] }) None runs in
-    (end_said ss r t (plain m) h.0, kept_from r (r.methods ++ ended (plain m) ∷ []) t h.1)
+    let h = later (record r { methods = r.methods ++ method_lines_of (plain m) ∷ [] }) None runs in
+    (end_said ss r t (plain m) h.0, kept_from r (r.methods ++ method_lines_of (plain m) ∷ []) t h.1)
 plain_step (statement.MaxStack n) ss r t m is a runs later =
     let h = later r (Some (changed (statement.MaxStack n) (plain m))) runs in
     (directive_said (statement.MaxStack n) ss r t (plain m) tt (is_none m.max_stack a.once) h.0, h.1)

@@ -16,7 +16,7 @@ use Rattle.jasmin.specs.declared.statement.ClassSort.{ClassSort}
 use Rattle.jasmin.specs.declared.statement.Instruction.{Instruction}
 use Rattle.jasmin.specs.declared.statement.Statement.{Statement}
 use Rattle.jasmin.specs.declared.statement.Statement.TheVariants as statement
-use Rattle.jasmin.specs.Judgements.{Judged, asked, unless}
+use Rattle.jasmin.specs.Judgements.{Judged, judge_test, unless}
 use Rattle.jasmin.specs.LineKinds.{directive_named, opcode_named, directive_kind, instruction_kind, code_kind, is_default, is_alone, switch_kind, other_kind, kind_of}
 use Rattle.jasmin.specs.Operands.{exactly, label_at, i32_at}
 use Rattle.jasmin.specs.Statements.{instruction_line, table_line, colon_at, label_after_colon, rising_at, match_line, default_line, statement_of}
@@ -35,7 +35,7 @@ table_said : (sort : ClassSort) (next : ℤ) (ts : List Lexeme) (s : Statement) 
 unfolding table_line Spells Suits
 table_said sort next ts s e =
     said_gives (IsSaid sort (open_switch.Table next) ts) (λ (label : List ℕ). statement.TableLabel label) _ s e (λ label is.
-    let outer = unless_is (unless (label_at (slice_get ts 0)) (exactly 1 ts)) (asked (int_le next (pos 2147483647)) flaw.Number) label is in
+    let outer = unless_is (unless (label_at (slice_get ts 0)) (exactly 1 ts)) (judge_test (int_le next (pos 2147483647)) flaw.Number) label is in
     let all = unless_is (label_at (slice_get ts 0)) (exactly 1 ts) label outer.0 in
     let l = label_said (slice_get ts 0) label all.0 in
     ((these ts (lexeme.Word label ∷ []) (exactly_said 1 ts tt all.1) (l.0, tt), l.1), (next, refl, asked_is (int_le next (pos 2147483647)) flaw.Number tt outer.1)))

@@ -31,10 +31,10 @@ use Rattle.jasmin.specs.declared.source.Operation.TheVariants as operation
 use Rattle.jasmin.specs.declared.statement.Flaw.TheVariants as flaw
 use Rattle.jasmin.specs.declared.statement.Instruction.{Instruction}
 use Rattle.jasmin.specs.declared.statement.Instruction.TheVariants as instruction
-use Rattle.jasmin.specs.Judgements.{Judged, said, asked, unless}
+use Rattle.jasmin.specs.Judgements.{Judged, map_ok, judge_test, unless}
 use Rattle.jasmin.specs.Numerals.{number_of}
 use Rattle.jasmin.specs.LineKinds.{opcode_named}
-use Rattle.jasmin.specs.Operands.{exactly, word_at, tested, class_at, field_descriptor_at, class_of, name_of, is_member, before_descriptor, descriptor_of, label_at, number_at, u8_at, u16_at, i8_at, i16_at, i32_at, i64_at, array_type_at}
+use Rattle.jasmin.specs.Operands.{exactly, word_at, word_if, class_at, field_descriptor_at, class_of, name_of, is_member, before_descriptor, descriptor_of, label_at, number_at, u8_at, u16_at, i8_at, i16_at, i32_at, i64_at, array_type_at}
 use Rattle.jasmin.specs.Statements.{word_or_none, whole, alone, loaded_word, loaded_at, constant_operation, increment_operation, branch_operation, field_operation, named_method, method_at, is_count, counted_at, operands_after_method, invoke_operation, is_usable_word, class_operation, new_array_operation, dimensions_at, multi_new_array_operation, instruction_with, instruction_line}
 use Rattle.source_form_laws.proofs.Judged.{same_ok, choose, said_gives, both_are, unless_is, asked_is, tested_is}
 use Rattle.source_form_laws.proofs.Operands.{described_type}
@@ -152,7 +152,7 @@ wide_constant_said w code ts o head e =
 
 -- ---- Locals and branches
 
-local_said : (w : List ℕ) (code : ℕ) (how : LocalUse) (ts : List Lexeme) (o : Operation) → IsHead w code (opcode.Local how) → said (λ n. operation.Local how n) (alone u16_at ts) ≡ Ok o → SpellsOperation (lexeme.Word w ∷ ts) o
+local_said : (w : List ℕ) (code : ℕ) (how : LocalUse) (ts : List Lexeme) (o : Operation) → IsHead w code (opcode.Local how) → map_ok (λ n. operation.Local how n) (alone u16_at ts) ≡ Ok o → SpellsOperation (lexeme.Word w ∷ ts) o
 local_said w code how ts o head e =
     said_gives (SpellsOperation (lexeme.Word w ∷ ts)) (λ (n : ℕ). operation.Local how n) (alone u16_at ts) o e (λ n is.
     let h = alone_said u16_at ts n is in
@@ -197,7 +197,7 @@ unfolding field_operation
 field_said w code how ts o head e =
     said_gives (SpellsOperation (lexeme.Word w ∷ ts)) (λ (p : List ℕ × List ℕ). operation.Field how (record { class = class_of p.0; name = name_of p.0; descriptor = p.1 })) _ o e (λ p is.
     let all = unless_is _ (exactly 2 ts) p is in
-    let two = both_are (tested (is_member is_name) flaw.Name (word_at (slice_get ts 0))) (field_descriptor_at (slice_get ts 1)) p all.0 in
+    let two = both_are (word_if (is_member is_name) flaw.Name (word_at (slice_get ts 0))) (field_descriptor_at (slice_get ts 1)) p all.0 in
     let first = place_said (is_member is_name) flaw.Name (slice_get ts 0) p.0 two.0 in
     let second = place_said (λ (v : List ℕ). is_some (field_type_of v)) flaw.Descriptor (slice_get ts 1) p.1 two.1 in
     let member = member_said is_name p.0 first.1 in
@@ -215,7 +215,7 @@ record IsNamed (how : Invoke) (w : List ℕ) (p : List ℕ × List ℕ) : Type 0
 
 named_said : (how : Invoke) (w : List ℕ) (p : List ℕ × List ℕ) → named_method how w ≡ Ok p → IsNamed how w p
 named_said how w p e =
-    let all = unless_is _ (asked (is_invocable_name how (name_of (before_descriptor w))) flaw.Operand) p e in
+    let all = unless_is _ (judge_test (is_invocable_name how (name_of (before_descriptor w))) flaw.Operand) p e in
     let two = both_are _ _ p all.0 in
     let name = tested_is (is_member is_method_name) flaw.Name (Ok (before_descriptor w)) p.0 two.0 in
     let described = tested_is (is_method_descriptor_for true) flaw.Descriptor (Ok (descriptor_of w)) p.1 two.1 in
@@ -307,8 +307,8 @@ class_said : (w : List ℕ) (code : ℕ) (how : ClassUse) (ts : List Lexeme) (o 
 unfolding class_operation
 class_said w code how ts o head e =
     said_gives (SpellsOperation (lexeme.Word w ∷ ts)) (λ (name : List ℕ). operation.Class how name) _ o e (λ name is.
-    let outer = unless_is (unless (class_at (slice_get ts 0)) (asked (is_usable_word how (word_or_none (slice_get ts 0))) flaw.Operand)) (exactly 1 ts) name is in
-    let all = unless_is (class_at (slice_get ts 0)) (asked (is_usable_word how (word_or_none (slice_get ts 0))) flaw.Operand) name outer.0 in
+    let outer = unless_is (unless (class_at (slice_get ts 0)) (judge_test (is_usable_word how (word_or_none (slice_get ts 0))) flaw.Operand)) (exactly 1 ts) name is in
+    let all = unless_is (class_at (slice_get ts 0)) (judge_test (is_usable_word how (word_or_none (slice_get ts 0))) flaw.Operand) name outer.0 in
     let class = place_said is_class_entry_name flaw.Name (slice_get ts 0) name all.0 in
     let word : word_or_none (slice_get ts 0) ≡ name = ap word_or_none class.0 in
     let usable = subst (λ (v : List ℕ). IsTrue (is_usable_word how v)) word (asked_is (is_usable_word how (word_or_none (slice_get ts 0))) flaw.Operand tt all.1) in

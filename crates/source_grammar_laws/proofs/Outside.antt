@@ -12,7 +12,7 @@ use Rattle.jasmin.specs.declared.reading.Part.{Part}
 use Rattle.jasmin.specs.declared.reading.Part.TheVariants as part
 use Rattle.jasmin.specs.declared.reading.OpenMethod.{OpenMethod}
 use Rattle.jasmin.specs.declared.reading.Reading.{Reading}
-use Rattle.jasmin.specs.Reading.{is_repeated, with_statement, empty_reading, with_lines, last_line, finished, source_of}
+use Rattle.jasmin.specs.Reading.{is_repeated, with_statement, empty_reading, with_lines, last_line, source_of_reading, source_of}
 use Rattle.source_form_laws.specs.Formed.{IsFormed}
 use Rattle.source_form_laws.proofs.Judged.{same_ok}
 use Rattle.source_form_laws.proofs.Sources.{source_formed}
@@ -245,7 +245,7 @@ record IsFinished (t : Reading) (s : Source) : Type 0 where
   pub none : t.method ≡ None
   pub tree : tree_of t name ≡ s
 
-finished_said : (last : ℕ) (t : Reading) (s : Source) (name : Option (List ℕ)) (method : Option OpenMethod) → finished last (record t { name = name; method = method }) ≡ Ok s → IsFinished (record t { name = name; method = method }) s
+finished_said : (last : ℕ) (t : Reading) (s : Source) (name : Option (List ℕ)) (method : Option OpenMethod) → source_of_reading last (record t { name = name; method = method }) ≡ Ok s → IsFinished (record t { name = name; method = method }) s
 finished_said last t s (Some name) None e = record { name = name; named = refl; none = refl; tree = same_ok _ s e }
 finished_said last t s (Some name) (Some m) e = absurd cc
 finished_said last t s None method e = absurd cc

@@ -16,9 +16,9 @@ use Rattle.jasmin.specs.declared.source.Caught.{Caught}
 use Rattle.jasmin.specs.declared.source.Caught.TheVariants as caught
 use Rattle.jasmin.specs.declared.statement.Flaw.{Flaw}
 use Rattle.jasmin.specs.declared.statement.Flaw.TheVariants as flaw
-use Rattle.jasmin.specs.Judgements.{Judged, said}
+use Rattle.jasmin.specs.Judgements.{Judged, map_ok}
 use Rattle.jasmin.specs.Numerals.{number_of, between, natural, is_from_to, is_version}
-use Rattle.jasmin.specs.Operands.{exactly, word_at, tested, keyword_at, judged_number, number_at, u8_at, u16_at, caught_at, array_type_of, array_type_at}
+use Rattle.jasmin.specs.Operands.{exactly, word_at, word_if, keyword_at, judged_number, number_at, u8_at, u16_at, caught_at, array_type_of, array_type_at}
 use Rattle.source_form_laws.proofs.Judged.{same_ok, choose, said_gives, asked_is, tested_is}
 use Rattle.source_grammar_laws.specs.Numbers.{IsDigit, SpellsDigits, SpellsNatural, SpellsNumber, SpellsUnsigned, SpellsVersion}
 use Rattle.source_grammar_laws.specs.Words.{SpellsCaught, type_word}
@@ -49,18 +49,18 @@ word_said (Some lexeme.Equals) w e = absurd cc
 word_said None w e = absurd cc
 
 -- The operand is a word that passes the test.
-pub place_said : (test : List ℕ → Bool) (f : Flaw) (o : Option Lexeme) (w : List ℕ) → tested test f (word_at o) ≡ Ok w → (o ≡ Some (lexeme.Word w)) × IsTrue (test w)
+pub place_said : (test : List ℕ → Bool) (f : Flaw) (o : Option Lexeme) (w : List ℕ) → word_if test f (word_at o) ≡ Ok w → (o ≡ Some (lexeme.Word w)) × IsTrue (test w)
 place_said test f o w e =
     let both = tested_is test f (word_at o) w e in
     (word_said o w both.0, both.1)
 
-pub place_says : (test : List ℕ → Bool) (f : Flaw) (w : List ℕ) → IsTrue (test w) → tested test f (Ok w) ≡ Ok w
+pub place_says : (test : List ℕ → Bool) (f : Flaw) (w : List ℕ) → IsTrue (test w) → word_if test f (Ok w) ≡ Ok w
 place_says test f w is = rw is refl
 
 -- The operand is the given word.
 pub keyword_said : (text : List ℕ) (o : Option Lexeme) (u : Unit {0}) → keyword_at text o ≡ Ok u → o ≡ Some (lexeme.Word text)
 keyword_said text o u e =
-    said_gives (λ (v : Unit {0}). o ≡ Some (lexeme.Word text)) (λ (w : List ℕ). tt) (tested (same_text text) flaw.Operand (word_at o)) u e (λ w is.
+    said_gives (λ (v : Unit {0}). o ≡ Some (lexeme.Word text)) (λ (w : List ℕ). tt) (word_if (same_text text) flaw.Operand (word_at o)) u e (λ w is.
     let both = place_said (same_text text) flaw.Operand o w is in
     both.0 ∙ ap (λ (x : List ℕ). Some (lexeme.Word x)) (sym (text_is text w both.1)))
 
@@ -117,7 +117,7 @@ below : (most : ℕ) (z : ℤ) → IsTrue (int_le (pos 0) z && int_le z (pos mos
 below most (pos n) e = (refl, leb-true n most (and_parts (int_le (pos 0) (pos n)) (int_le (pos n) (pos most)) e).1)
 below most (negsuc n) e = absurd cc
 
-unsigned_said : (bits most : ℕ) (o : Option Lexeme) (n : ℕ) → most + 1 ≡ 2 ^ bits → said unsigned_abs (number_at (pos 0) (pos most) o) ≡ Ok n → IsUnsigned bits o n
+unsigned_said : (bits most : ℕ) (o : Option Lexeme) (n : ℕ) → most + 1 ≡ 2 ^ bits → map_ok unsigned_abs (number_at (pos 0) (pos most) o) ≡ Ok n → IsUnsigned bits o n
 unsigned_said bits most o n size e =
     said_gives (IsUnsigned bits o) unsigned_abs (number_at (pos 0) (pos most) o) n e (λ z is.
     let h = number_place_said (pos 0) (pos most) o z is in
@@ -131,7 +131,7 @@ u16_said o n e = unsigned_said 16 65535 o n refl e
 pub u8_said : (o : Option Lexeme) (n : ℕ) → u8_at o ≡ Ok n → IsUnsigned 8 o n
 u8_said o n e = unsigned_said 8 255 o n refl e
 
-unsigned_says : (bits most : ℕ) (w : List ℕ) (n : ℕ) → most + 1 ≡ 2 ^ bits → SpellsUnsigned bits w n → said unsigned_abs (number_at (pos 0) (pos most) (Some (lexeme.Word w))) ≡ Ok n
+unsigned_says : (bits most : ℕ) (w : List ℕ) (n : ℕ) → most + 1 ≡ 2 ^ bits → SpellsUnsigned bits w n → map_ok unsigned_abs (number_at (pos 0) (pos most) (Some (lexeme.Word w))) ≡ Ok n
 unsigned_says bits most w n size is =
     let small = is.1 in
     rw (number_place_says (pos 0) (pos most) w (pos n) is.0 (rw (le-leb 0 n (omega arith), le-leb n most (omega arith)) refl)) refl

@@ -23,7 +23,7 @@ use Rattle.jasmin.specs.declared.reading.Part.TheVariants as part
 use Rattle.jasmin.specs.declared.reading.OpenMethod.{OpenMethod}
 use Rattle.jasmin.specs.declared.reading.Reading.{Reading}
 use Rattle.jasmin.specs.Denote.{has_code}
-use Rattle.jasmin.specs.Reading.{last_value, is_in_order, is_repeated, with_item, opened, ended, with_statement, empty_reading, last_line, finished, source_of}
+use Rattle.jasmin.specs.Reading.{last_value, is_in_order, is_repeated, with_item, new_method, method_lines_of, with_statement, empty_reading, last_line, source_of_reading, source_of}
 use Rattle.source_grammar_laws.specs.Lines.{IsPermitted, Suits}
 use Rattle.source_grammar_laws.specs.Sources.{sort_of, IsDirective, AreRising, MakesItem, MakesCode, MakesMethod, Member, is_field, is_method, MakesMembers, fields_in, methods_in, same_field, same_method, IsBeginning, MakesSuper, MakesSource, Writes}
 use Rattle.source_grammar_laws.proofs.Steps.{Admits, Runs, runs_on, lines_read}
@@ -163,16 +163,16 @@ limit_is : (o : Option ℕ) (n : ℕ) → IsLimitBehind o [] n → unwrap_or o 1
 limit_is None n e = sym e
 limit_is (Some k) n e = sym e
 
-ended_is : (m : OpenMethod) (lines : MethodLines) → IsFilled (plain m) [] [] lines → ended (plain m) ≡ lines
+ended_is : (m : OpenMethod) (lines : MethodLines) → IsFilled (plain m) [] [] lines → method_lines_of (plain m) ≡ lines
 ended_is m lines h =
-    lines_same (ended (plain m)) lines (sym h.access) (sym h.name) (sym h.descriptor) (sym (h.throws ∙ append-nil m.throws)) (limit_is m.max_stack lines.max_stack h.stack) (limit_is m.max_locals lines.max_locals h.locals)
+    lines_same (method_lines_of (plain m)) lines (sym h.access) (sym h.name) (sym h.descriptor) (sym (h.throws ∙ append-nil m.throws)) (limit_is m.max_stack lines.max_stack h.stack) (limit_is m.max_locals lines.max_locals h.locals)
     (sym (h.catches ∙ append-nil m.catches)) (sym (h.items_are ∙ append-nil m.code))
 
 -- A body leads to an open method, which closes as these lines.
 record IsRun (r : Reading) (m : OpenMethod) (body : List Statement) (lines : MethodLines) : Type 0 where
   pub next : OpenMethod
   pub runs : Runs (at r (Some (plain m))) body (at r (Some (plain next)))
-  pub is : ended (plain next) ≡ lines
+  pub is : method_lines_of (plain next) ≡ lines
 
 body_runs : (items : List CodeItem) (body : List Statement) (r : Reading) (m : OpenMethod) (lines : MethodLines) → MakesCode body items → IsFilled (plain m) body items lines → IsRun r m body lines
 body_runs [] body r m lines code filled =
@@ -202,7 +202,7 @@ distinct_before same (x ∷ xs) y ys d = rw (no_other (λ z. same x z) xs y ys d
 abbrev with_members : Reading → List Member → Reading
 with_members r members = record r { fields = r.fields ++ fields_in members; methods = r.methods ++ methods_in members }
 
-filled_by : (lines : MethodLines) (body : List Statement) → MakesMethod body lines → IsFilled (plain (opened lines.access lines.name lines.descriptor)) body lines.code lines
+filled_by : (lines : MethodLines) (body : List Statement) → MakesMethod body lines → IsFilled (plain (new_method lines.access lines.name lines.descriptor)) body lines.code lines
 filled_by lines body made =
     record { access = refl; name = refl; descriptor = refl; throws = made.1; catches = made.2; stack = made.3; locals = made.4; items_are = refl; takes = made.5 }
 
@@ -211,11 +211,11 @@ method_runs : (r : Reading) (lines : MethodLines) (body : List Statement) → Is
     → Runs (at r None) (statement.Method lines.access lines.name lines.descriptor ∷ (body ++ statement.EndMethod ∷ [])) (at (record r { methods = r.methods ++ lines ∷ [] }) None)
 unfolding Suits is_repeated with_statement
 method_runs r lines body permitted fresh made =
-    let m = opened lines.access lines.name lines.descriptor in
-    let b = body_runs lines.code body r (opened lines.access lines.name lines.descriptor) lines made.0 (filled_by lines body made) in
+    let m = new_method lines.access lines.name lines.descriptor in
+    let b = body_runs lines.code body r (new_method lines.access lines.name lines.descriptor) lines made.0 (filled_by lines body made) in
     let last : Runs (at r (Some (plain b.next))) (statement.EndMethod ∷ []) (at (record r { methods = r.methods ++ lines ∷ [] }) None) =
     (record { here = refl; suits = tt; once = refl }, ap (λ (x : MethodLines). at (record r { methods = r.methods ++ x ∷ [] }) None) b.is) in
-    (record { here = refl; suits = permitted; once = fresh }, runs_on body (statement.EndMethod ∷ []) (at r (Some (plain (opened lines.access lines.name lines.descriptor)))) (at r (Some (plain b.next))) (at (record r { methods = r.methods ++ lines ∷ [] }) None) b.runs last)
+    (record { here = refl; suits = permitted; once = fresh }, runs_on body (statement.EndMethod ∷ []) (at r (Some (plain (new_method lines.access lines.name lines.descriptor)))) (at r (Some (plain b.next))) (at (record r { methods = r.methods ++ lines ∷ [] }) None) b.runs last)
 
 field_runs : (r : Reading) (f : FieldLine) → list_any (λ g. same_field g f) r.fields ≡ false → Admits (at r None) (statement.Field f)
 unfolding Suits is_repeated
@@ -396,10 +396,10 @@ class_leads bytecode source access name = refl
 -- ---- The source
 
 tree_is : (last : ℕ) (t : Reading) (s : Source) (name : Option (List ℕ)) (method : Option OpenMethod) → name ≡ Some s.name → method ≡ None → t.access ≡ s.access → unwrap_or t.superclass (codes "java/lang/Object") ≡ s.superclass → t.interfaces ≡ s.interfaces → t.fields ≡ s.fields → t.methods ≡ s.methods
-    → finished last (record t { name = name; method = method }) ≡ Ok s
+    → source_of_reading last (record t { name = name; method = method }) ≡ Ok s
 tree_is last t s name method named none access superclass interfaces fields methods = rw (named, none, access, superclass, interfaces, fields, methods) refl
 
-source_runs : (ss : List Statement) (s : Source) (last : ℕ) → MakesSource ss s → (t : Reading) × Runs empty_reading ss t × (finished last t ≡ Ok s)
+source_runs : (ss : List Statement) (s : Source) (last : ℕ) → MakesSource ss s → (t : Reading) × Runs empty_reading ss t × (source_of_reading last t ≡ Ok s)
 source_runs ss s last made =
     let first = beginning_runs made.beginning made.begins in
     let class = class_runs first.bytecode first.source s.access s.name s.superclass made.super s.interfaces made.members made.behind made.superclass made.body (subst (IsDistinctBy same_field) made.fields made.distinct_fields) (subst (IsDistinctBy same_method) made.methods made.distinct_methods) in

@@ -25,10 +25,10 @@ use Rattle.jasmin.specs.declared.reading.OpenMethod.{OpenMethod}
 use Rattle.jasmin.specs.declared.reading.Reading.{Reading}
 use Rattle.jasmin.specs.Lexing.{Lexes, tokens_of, lexemes}
 use Rattle.jasmin.specs.Sources.{units_of}
-use Rattle.jasmin.specs.Judgements.{Judged, asked}
+use Rattle.jasmin.specs.Judgements.{Judged, judge_test}
 use Rattle.jasmin.specs.LineKinds.{kind_of}
 use Rattle.jasmin.specs.Statements.{bytecode_line, source_line, class_line, super_line, implements_line, field_line, method_line, end_line, limit_line, catch_line, throws_line, line_line, var_line, directive_line, table_line, match_line, case_line, default_line, statement_of}
-use Rattle.jasmin.specs.Reading.{switch_of, sort_of, is_placed, part_of, may_have_instructions, has_no_switch, has_labels, is_in_place, is_repeated, with_statement, added, with_lexemes, with_line, at_line, with_lines}
+use Rattle.jasmin.specs.Reading.{switch_of, sort_of, is_placed, part_of, may_have_instructions, has_no_switch, has_labels, is_in_place, is_repeated, with_statement, judge_statement, with_lexemes, with_line, at_line, with_lines}
 use Rattle.jasmin.proofs.Tokens.{lexed_is_spelled, spelled_is_lexed}
 use Rattle.source_form_laws.proofs.Judged.{same_ok, choose, said_gives, asked_is}
 use Rattle.source_grammar_laws.specs.Instructions.{SpellsOperation, SpellsInstruction}
@@ -124,7 +124,7 @@ step : {A B E : Type 0} {G : Type 0} (r : Result A E) (f : A → Result B E) (y 
 step (Ok x) f y e next = next x refl e
 step (Err d) f y e next = absurd cc
 
-added_said : (r t : Reading) (s : Statement) → added r s ≡ Ok t → (is_repeated r s ≡ false) × (with_statement r s ≡ t)
+added_said : (r t : Reading) (s : Statement) → judge_statement r s ≡ Ok t → (is_repeated r s ≡ false) × (with_statement r s ≡ t)
 added_said r t s e =
     choose (is_repeated r s) (Err flaw.Repeated) (Ok (with_statement r s)) (Ok t) e
     (λ again is. absurd cc)
@@ -133,7 +133,7 @@ added_said r t s e =
 lexemes_said : (r t : Reading) (ts : List Lexeme) → with_lexemes r ts ≡ Ok t → IsStep r ts t
 lexemes_said r t ts e =
     step (kind_of (switch_of r) ts) _ t e (λ k known rest.
-    step (asked (is_in_place r k) flaw.OutOfPlace) _ t rest (λ u here more.
+    step (judge_test (is_in_place r k) flaw.OutOfPlace) _ t rest (λ u here more.
     step (statement_of (sort_of r.access) (switch_of r) k ts) _ t more (λ s says last.
     let spelled = line_said (sort_of r.access) (switch_of r) ts k s known says in
     let add = added_said r t s last in

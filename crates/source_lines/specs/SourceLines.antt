@@ -3,7 +3,7 @@ use Rattle.std.specs.Prelude.{ℕ, Bool, zero, suc, ◌+◌, ◌-◌, ◌*◌, �
 use Rattle.std.specs.Fmt.{decimal}
 use Rattle.std.specs.List.{flat_map, fold}
 use Rattle.std.specs.Option.{option_and_then, option_map, unwrap_or}
-use Rattle.escapes.specs.Escapes.{spelled}
+use Rattle.escapes.specs.Escapes.{name_text}
 use Rattle.jvms_file.specs.declared.class_file.ClassFile.{ClassFile}
 use Rattle.jvms_file.specs.declared.class_file.Code.{Code}
 use Rattle.jvms_file.specs.declared.class_file.Constant.{Constant}
@@ -72,7 +72,7 @@ file_of first files class = if nat_lt class first then None else slice_get files
 
 -- Returns ` (F.java:12)` if the class file has both parts.
 abbrev pub source_text : Option (List ℕ) → Option ℕ → List ℕ
-source_text (Some name) (Some line) = codes " (" ++ spelled name ++ codes ":" ++ decimal line ++ codes ")"
+source_text (Some name) (Some line) = codes " (" ++ name_text name ++ codes ":" ++ decimal line ++ codes ")"
 source_text name line = []
 
 abbrev pub place_in_file : ClassFile → ℕ → ℕ → List ℕ

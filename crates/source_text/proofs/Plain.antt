@@ -7,7 +7,7 @@ use Rattle.std.proofs.lemmas.List.Folds.{list_all-append}
 use Rattle.jasmin.specs.Lexing.{is_space, ends_word}
 use Rattle.shared_data.specs.Surrogates.{is_high, is_low}
 use Rattle.listing_spec.specs.Printable.{is_paired, is_word_unit, is_word}
-use Rattle.listing_spec.specs.Printed.{joined}
+use Rattle.listing_spec.specs.Printed.{join_words}
 
 -- Decides whether a unit is neither a line feed nor a carriage return.
 abbrev pub is_line_unit : ℕ → Bool
@@ -108,12 +108,12 @@ word_plain name e =
 abbrev pub AllPlain : List (List ℕ) → Type 0
 AllPlain lines = AllByRecursion IsPlain lines
 
-pub joined_plain : (words : List (List ℕ)) → AllPlain words → IsPlain (joined words)
-unfolding joined
+pub joined_plain : (words : List (List ℕ)) → AllPlain words → IsPlain (join_words words)
+unfolding join_words
 joined_plain [] a = nil_plain
 joined_plain (w ∷ []) a = a.0
 joined_plain (w ∷ v ∷ ws) a =
-    plain_append w (32 ∷ joined (v ∷ ws)) a.0 (small_first 32 (joined (v ∷ ws)) (omega arith) (omega arith) (joined_plain (v ∷ ws) a.1))
+    plain_append w (32 ∷ join_words (v ∷ ws)) a.0 (small_first 32 (join_words (v ∷ ws)) (omega arith) (omega arith) (joined_plain (v ∷ ws) a.1))
 
 pub all_append : {A : Type 0} (P : A → Type 0) (xs ys : List A) → AllByRecursion P xs → AllByRecursion P ys → AllByRecursion P (xs ++ ys)
 all_append P [] ys p q = q

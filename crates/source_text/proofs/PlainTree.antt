@@ -32,7 +32,7 @@ use Rattle.jasmin.specs.Numerals.{number_of}
 use Rattle.jasmin.specs.Operands.{field_words, method_words}
 use Rattle.listing_spec.specs.Listable.{IsPlaceLabel, IsListableLoad, IsListableOperation, IsListableItem, IsListableCatch, IsListableValue, IsListableField, IsListableMethod, IsListable}
 use Rattle.listing_spec.specs.Printable.{is_word, is_before_descriptor, is_loadable_word, is_printable_operation, is_printable_item, is_printable_caught, is_printable_field, is_printable_method, is_printable}
-use Rattle.listing_spec.specs.Printed.{joined, access_names, written_class_words, written_interface_words, opcode_of, mnemonic, array_type_name, loaded_word, member_word, count_words, operand_words, switch_line, default_line, match_line, lines_after, item_lines, value_words, field_line, caught_word, catch_line, throws_line, body_lines, method_text, class_line, printed}
+use Rattle.listing_spec.specs.Printed.{join_words, access_names, written_class_words, written_interface_words, opcode_of, mnemonic, array_type_name, loaded_word, member_word, count_words, operand_words, switch_line, default_line, match_line, lines_after, item_lines, value_words, field_line, caught_word, catch_line, throws_line, body_lines, method_text, class_line, lines_of_source}
 use Rattle.source_text.proofs.Plain.{IsPlain, AllPlain, is_simple, plain_append, simple_plain, small_first, word_plain, joined_plain, all_append, all_map, all_flat_map, all_tested, all_both}
 use Rattle.source_text.proofs.PlainWords.{decimal_plain, signed_plain, label_plain, quoted_plain, access_plain, mnemonic_plain}
 
@@ -95,7 +95,7 @@ operand_plain (operation.NewArray type) l e = (array_type_plain type, tt)
 operand_plain (operation.MultiNewArray name count) l e = (word_plain name e, (decimal_plain count, tt))
 
 switch_plain : (words : List (List ℕ)) → AllPlain words → IsPlain (switch_line words)
-switch_plain words a = plain_append (codes "    ") (joined words) (ascii (codes "    ") refl) (joined_plain words a)
+switch_plain words a = plain_append (codes "    ") (join_words words) (ascii (codes "    ") refl) (joined_plain words a)
 
 default_plain : (label : List ℕ) → IsPlaceLabel label → IsPlain (default_line label)
 default_plain label l =
@@ -134,7 +134,7 @@ unfolding item_lines
 item_plain (item.Label name) (l, e) = (plain_append name (codes ":") (label_plain name l) (ascii (codes ":") refl), tt)
 item_plain (item.Operation o) (l, e) =
     let words : AllPlain (mnemonic (opcode_of o) ∷ operand_words o) = (mnemonic_plain (opcode_of o), operand_plain o l e) in (
-      plain_append (codes "  ") (joined (mnemonic (opcode_of o) ∷ operand_words o)) (ascii (codes "  ") refl) (joined_plain (mnemonic (opcode_of o) ∷ operand_words o) words),
+      plain_append (codes "  ") (join_words (mnemonic (opcode_of o) ∷ operand_words o)) (ascii (codes "  ") refl) (joined_plain (mnemonic (opcode_of o) ∷ operand_words o) words),
       behind_plain o l,
     )
 
@@ -167,14 +167,14 @@ catch_plain c (l, e) =
 throws_plain : (name : List ℕ) → is_word name ≡ true → IsPlain (throws_line name)
 throws_plain name e = joined_plain (codes ".throws" ∷ name ∷ []) (ascii (codes ".throws") refl, (word_plain name e, tt))
 
-limit_plain : (which : List ℕ) (n : ℕ) → IsPlain which → IsPlain (joined (codes ".limit" ∷ which ∷ decimal n ∷ []))
+limit_plain : (which : List ℕ) (n : ℕ) → IsPlain which → IsPlain (join_words (codes ".limit" ∷ which ∷ decimal n ∷ []))
 limit_plain which n p = joined_plain (codes ".limit" ∷ which ∷ decimal n ∷ []) (ascii (codes ".limit") refl, (p, (decimal_plain n, tt)))
 
 body_plain : (m : MethodLines) → IsListableMethod m → list_all (λ c. is_printable_caught c.caught) m.catches ≡ true → list_all is_printable_item m.code ≡ true → AllPlain (body_lines m)
 unfolding body_lines
 body_plain m l catches code =
-    let stack = joined (codes ".limit" ∷ codes "stack" ∷ decimal m.max_stack ∷ []) in
-    let locals = joined (codes ".limit" ∷ codes "locals" ∷ decimal m.max_locals ∷ []) in
+    let stack = join_words (codes ".limit" ∷ codes "stack" ∷ decimal m.max_stack ∷ []) in
+    let locals = join_words (codes ".limit" ∷ codes "locals" ∷ decimal m.max_locals ∷ []) in
     let of_catches : AllPlain (map catch_line m.catches) =
     all_map (λ (c : CatchLine). IsListableCatch c × (is_printable_caught c.caught ≡ true)) IsPlain catch_line catch_plain m.catches
     (all_both IsListableCatch (λ (c : CatchLine). is_printable_caught c.caught) m.catches l.catches catches) in
@@ -194,7 +194,7 @@ method_plain m (l, e) =
     let catches = and_parts (list_all (λ c. is_printable_caught c.caught) m.catches) (list_all is_printable_item m.code) throws.1 in
     let flags : AllPlain (access_names method_words m.access) = access_plain method_words m.access refl in
     let described : AllPlain ((m.name ++ m.descriptor) ∷ []) = (plain_append m.name m.descriptor (before_descriptor_plain m.name name.0) (word_plain m.descriptor descriptor.0), tt) in
-    let first : IsPlain (joined (codes ".method" ∷ access_names method_words m.access ++ (m.name ++ m.descriptor) ∷ [])) =
+    let first : IsPlain (join_words (codes ".method" ∷ access_names method_words m.access ++ (m.name ++ m.descriptor) ∷ [])) =
     joined_plain (codes ".method" ∷ access_names method_words m.access ++ (m.name ++ m.descriptor) ∷ [])
     (ascii (codes ".method") refl, all_append IsPlain (access_names method_words m.access) ((m.name ++ m.descriptor) ∷ []) flags described) in
     let of_throws : AllPlain (map throws_line m.throws) =
@@ -209,28 +209,28 @@ method_plain m (l, e) =
 class_plain : (s : Source) → IsPlain s.name → IsPlain (class_line s)
 class_plain s p =
     cond_both (is_interface s.access)
-    (joined (codes ".interface" ∷ access_names written_interface_words s.access ++ s.name ∷ []))
-    (joined (codes ".class" ∷ access_names written_class_words s.access ++ s.name ∷ []))
+    (join_words (codes ".interface" ∷ access_names written_interface_words s.access ++ s.name ∷ []))
+    (join_words (codes ".class" ∷ access_names written_class_words s.access ++ s.name ∷ []))
     IsPlain
     (λ is. joined_plain (codes ".interface" ∷ access_names written_interface_words s.access ++ s.name ∷ [])
     (ascii (codes ".interface") refl, all_append IsPlain (access_names written_interface_words s.access) (s.name ∷ []) (access_plain written_interface_words s.access refl) (p, tt)))
     (λ isnt. joined_plain (codes ".class" ∷ access_names written_class_words s.access ++ s.name ∷ [])
     (ascii (codes ".class") refl, all_append IsPlain (access_names written_class_words s.access) (s.name ∷ []) (access_plain written_class_words s.access refl) (p, tt)))
 
-implements_plain : (name : List ℕ) → is_word name ≡ true → IsPlain (joined (codes ".implements" ∷ name ∷ []))
+implements_plain : (name : List ℕ) → is_word name ≡ true → IsPlain (join_words (codes ".implements" ∷ name ∷ []))
 implements_plain name e = joined_plain (codes ".implements" ∷ name ∷ []) (ascii (codes ".implements") refl, (word_plain name e, tt))
 
-pub printed_plain : (s : Source) → IsListable s → is_printable s ≡ true → AllPlain (printed s)
-unfolding printed is_printable
+pub printed_plain : (s : Source) → IsListable s → is_printable s ≡ true → AllPlain (lines_of_source s)
+unfolding lines_of_source is_printable
 printed_plain s l e =
     let name = and_parts (is_word s.name) (is_word s.superclass && (list_all is_word s.interfaces && (list_all is_printable_field s.fields && list_all is_printable_method s.methods))) e in
     let superclass = and_parts (is_word s.superclass) (list_all is_word s.interfaces && (list_all is_printable_field s.fields && list_all is_printable_method s.methods)) name.1 in
     let interfaces = and_parts (list_all is_word s.interfaces) (list_all is_printable_field s.fields && list_all is_printable_method s.methods) superclass.1 in
     let members = and_parts (list_all is_printable_field s.fields) (list_all is_printable_method s.methods) interfaces.1 in
-    let of_super : IsPlain (joined (codes ".super" ∷ s.superclass ∷ [])) =
+    let of_super : IsPlain (join_words (codes ".super" ∷ s.superclass ∷ [])) =
     joined_plain (codes ".super" ∷ s.superclass ∷ []) (ascii (codes ".super") refl, (word_plain s.superclass superclass.0, tt)) in
-    let of_interfaces : AllPlain (map (λ name. joined (codes ".implements" ∷ name ∷ [])) s.interfaces) =
-    all_map (λ (name : List ℕ). is_word name ≡ true) IsPlain (λ (name : List ℕ). joined (codes ".implements" ∷ name ∷ [])) implements_plain s.interfaces (all_tested is_word s.interfaces interfaces.0) in
+    let of_interfaces : AllPlain (map (λ name. join_words (codes ".implements" ∷ name ∷ [])) s.interfaces) =
+    all_map (λ (name : List ℕ). is_word name ≡ true) IsPlain (λ (name : List ℕ). join_words (codes ".implements" ∷ name ∷ [])) implements_plain s.interfaces (all_tested is_word s.interfaces interfaces.0) in
     let of_fields : AllPlain (map field_line s.fields) =
     all_map (λ (f : FieldLine). IsListableField f × (is_printable_field f ≡ true)) IsPlain field_line field_plain s.fields
     (all_both IsListableField is_printable_field s.fields l.fields members.0) in
@@ -242,7 +242,7 @@ printed_plain s l e =
         class_plain s (word_plain s.name name.0),
         (
           of_super,
-          all_append IsPlain (map (λ name. joined (codes ".implements" ∷ name ∷ [])) s.interfaces) (map field_line s.fields ++ flat_map method_text s.methods) of_interfaces
+          all_append IsPlain (map (λ name. join_words (codes ".implements" ∷ name ∷ [])) s.interfaces) (map field_line s.fields ++ flat_map method_text s.methods) of_interfaces
               (all_append IsPlain (map field_line s.fields) (flat_map method_text s.methods) of_fields of_methods),
         ),
       ),

@@ -11,7 +11,7 @@ use Rattle.jasmin.specs.declared.mnemonic.TheConstants.{MNEMONICS}
 use Rattle.jasmin.specs.Operands.{Access}
 use Rattle.listing_spec.specs.TreeOf.{label_of}
 use Rattle.listing_spec.specs.Listable.{IsPlaceLabel}
-use Rattle.listing_spec.specs.Printed.{access_names, hexadecimal, four_digits, escaped, quoted, mnemonic}
+use Rattle.listing_spec.specs.Printed.{access_names, hexadecimal, four_digits, escape_of, quotation, mnemonic}
 use Rattle.source_text.proofs.Plain.{IsPlain, AllPlain, is_simple, nil_plain, plain_append, simple_plain, small_first}
 
 -- ---- Numbers
@@ -73,7 +73,7 @@ printable_plain u y q =
     small_first u [] (omega arith) (omega arith) nil_plain)
     (λ unmet. q)
 
-escaped_plain : (u : ℕ) → u < 0x10000 → IsPlain (escaped u)
+escaped_plain : (u : ℕ) → u < 0x10000 → IsPlain (escape_of u)
 escaped_plain u small =
     either (u == 10) (codes "\\n") _ (simple_plain (codes "\\n") refl)
     (either (u == 13) (codes "\\r") _ (simple_plain (codes "\\r") refl)
@@ -84,15 +84,15 @@ escaped_plain u small =
     (either (u == 92) (codes "\\\\") _ (simple_plain (codes "\\\\") refl)
     (printable_plain u (92 ∷ 117 ∷ four_digits u) (numbered_plain u small))))))))
 
-inside_plain : (text : List ℕ) → IsText text → IsPlain (flat_map escaped text)
+inside_plain : (text : List ℕ) → IsText text → IsPlain (flat_map escape_of text)
 inside_plain [] fits = nil_plain
-inside_plain (u ∷ us) fits = plain_append (escaped u) (flat_map escaped us) (escaped_plain u fits.0) (inside_plain us fits.1)
+inside_plain (u ∷ us) fits = plain_append (escape_of u) (flat_map escape_of us) (escaped_plain u fits.0) (inside_plain us fits.1)
 
-pub quoted_plain : (text : List ℕ) → IsText text → IsPlain (quoted text)
-unfolding quoted
+pub quoted_plain : (text : List ℕ) → IsText text → IsPlain (quotation text)
+unfolding quotation
 quoted_plain text fits =
-    small_first 34 (flat_map escaped text ++ 34 ∷ []) (omega arith) (omega arith)
-    (plain_append (flat_map escaped text) (34 ∷ []) (inside_plain text fits) (simple_plain (34 ∷ []) refl))
+    small_first 34 (flat_map escape_of text ++ 34 ∷ []) (omega arith) (omega arith)
+    (plain_append (flat_map escape_of text) (34 ∷ []) (inside_plain text fits) (simple_plain (34 ∷ []) refl))
 
 -- ---- Words of tables
 

@@ -3,9 +3,9 @@ use Rattle.std.specs.Prelude.{ℕ, List, [], ◌∷◌, ◌++◌}
 use Rattle.std.specs.List.{flat_map}
 
 -- Returns a line with its line end.
-abbrev pub ended : List ℕ → List ℕ
-ended line = line ++ 10 ∷ []
+abbrev pub with_lf : List ℕ → List ℕ
+with_lf line = line ++ 10 ∷ []
 
 -- Returns the text of lines.
 abbrev pub text_of_lines : List (List ℕ) → List ℕ
-text_of_lines lines = flat_map ended lines
+text_of_lines lines = flat_map with_lf lines

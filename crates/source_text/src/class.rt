@@ -2,9 +2,9 @@
 
 ghost use Rattle.std.specs.Prelude.{◌≡◌, ◌++◌, ◌∷◌, [], map, OnOk, IfOk, codes};
 ghost use Rattle.std.specs.List.{flat_map};
-ghost use Rattle.listing_spec.specs.Printed.{joined, access_names, written_class_words, written_interface_words, class_line, printed};
+ghost use Rattle.listing_spec.specs.Printed.{join_words, access_names, written_class_words, written_interface_words, class_line, lines_of_source};
 ghost use Rattle.source_text.specs.Words.{units_in};
-ghost use Rattle.source_text.specs.Lines.{ended, text_of_lines};
+ghost use Rattle.source_text.specs.Lines.{with_lf, text_of_lines};
 
 use crate::access::{push_class_words, push_interface_words, push_word};
 use crate::member::{put_fields, put_methods};
@@ -40,7 +40,7 @@ fn words_of_interface<'a>(alloc: Global, source: &'a Source) -> Result<Vec<Word<
 
 /// Appends the line of a class or an interface.
 fn put_class_line(alloc: Global, out: &mut Vec<u16>, source: &Source) -> Result<(), AllocError>
-    ensures { OnOk result (out.new.items ≡ out.old.items ++ ended (class_line source.now)) }
+    ensures { OnOk result (out.new.items ≡ out.old.items ++ with_lf (class_line source.now)) }
 {
     if Flags::of_access(source.access).is_interface() {
         let words = words_of_interface(alloc, source)?;
@@ -54,7 +54,8 @@ fn put_class_line(alloc: Global, out: &mut Vec<u16>, source: &Source) -> Result<
 /// Appends the line of an implemented interface.
 fn put_interface(alloc: Global, out: &mut Vec<u16>, name: &Text) -> Result<(), AllocError>
     ensures { OnOk result
-        (out.new.items ≡ out.old.items ++ ended (joined (codes ".implements" ∷ name.now ∷ []))) }
+        (out.new.items ≡ out.old.items
+        ++ with_lf (join_words (codes ".implements" ∷ name.now ∷ []))) }
 {
     let name = Word::Name(name.as_slice());
     put_line(alloc, out, &[Word::Ascii(".implements"), name])
@@ -63,7 +64,7 @@ fn put_interface(alloc: Global, out: &mut Vec<u16>, name: &Text) -> Result<(), A
 /// Appends the lines of the implemented interfaces.
 fn put_interfaces(alloc: Global, out: &mut Vec<u16>, names: &[Text]) -> Result<(), AllocError>
     ensures { OnOk result (out.new.items ≡ out.old.items
-        ++ flat_map (λ name. ended (joined (codes ".implements" ∷ name ∷ []))) names.now) }
+        ++ flat_map (λ name. with_lf (join_words (codes ".implements" ∷ name ∷ []))) names.now) }
 {
     for name in names {
         put_interface(alloc, out, name)?;
@@ -78,7 +79,8 @@ pub(crate) fn put_source(
     out: &mut Vec<u16>,
     source: &Source,
 ) -> Result<(), AllocError>
-    ensures { OnOk result (out.new.items ≡ out.old.items ++ text_of_lines (printed source.now)) }
+    ensures { OnOk result
+        (out.new.items ≡ out.old.items ++ text_of_lines (lines_of_source source.now)) }
 {
     put_line(alloc, out, &[Word::Ascii(".bytecode 49.0")])?;
     put_class_line(alloc, out, source)?;

@@ -5,9 +5,9 @@ ghost use Rattle.std.specs.Option.{unwrap_or};
 ghost use Rattle.std.specs.List.{flat_map};
 ghost use Rattle.std.specs.Fmt.{decimal, signed_decimal};
 ghost use Rattle.jvms_file.specs.Instructions.{interface_count};
-ghost use Rattle.listing_spec.specs.Printed.{opcode_of, mnemonic, loaded_word, joined, operand_words, count_words, switch_line, default_line, match_line, lines_after, item_lines, member_word};
+ghost use Rattle.listing_spec.specs.Printed.{opcode_of, mnemonic, loaded_word, join_words, operand_words, count_words, switch_line, default_line, match_line, lines_after, item_lines, member_word};
 ghost use Rattle.source_text.specs.Words.{units_in};
-ghost use Rattle.source_text.specs.Lines.{ended, text_of_lines};
+ghost use Rattle.source_text.specs.Lines.{with_lf, text_of_lines};
 
 use crate::mnemonic::{array_type_name, mnemonic};
 use crate::opcodes::opcode_of;
@@ -23,7 +23,8 @@ use std::alloc::{AllocError, Global};
 /// Appends an instruction's line, indented by two spaces.
 fn put_instruction(alloc: Global, out: &mut Vec<u16>, words: &[Word<'_>]) -> Result<(), AllocError>
     ensures { OnOk result
-        (out.new.items ≡ out.old.items ++ ended (codes "  " ++ joined (map units_in words.now))) }
+        (out.new.items ≡ out.old.items
+        ++ with_lf (codes "  " ++ join_words (map units_in words.now))) }
 {
     put_ascii(out, "  ")?;
     put_line(alloc, out, words)
@@ -32,7 +33,7 @@ fn put_instruction(alloc: Global, out: &mut Vec<u16>, words: &[Word<'_>]) -> Res
 /// Appends a line of a switch, indented by four spaces.
 fn put_case(alloc: Global, out: &mut Vec<u16>, words: &[Word<'_>]) -> Result<(), AllocError>
     ensures { OnOk result
-        (out.new.items ≡ out.old.items ++ ended (switch_line (map units_in words.now))) }
+        (out.new.items ≡ out.old.items ++ with_lf (switch_line (map units_in words.now))) }
 {
     put_ascii(out, "    ")?;
     put_line(alloc, out, words)
@@ -40,7 +41,7 @@ fn put_case(alloc: Global, out: &mut Vec<u16>, words: &[Word<'_>]) -> Result<(),
 
 /// Appends the line of a switch's default.
 fn put_default(alloc: Global, out: &mut Vec<u16>, label: &Text) -> Result<(), AllocError>
-    ensures { OnOk result (out.new.items ≡ out.old.items ++ ended (default_line label.now)) }
+    ensures { OnOk result (out.new.items ≡ out.old.items ++ with_lf (default_line label.now)) }
 {
     put_case(
         alloc,
@@ -56,7 +57,7 @@ fn put_default(alloc: Global, out: &mut Vec<u16>, label: &Text) -> Result<(), Al
 /// Appends the lines of labels.
 fn put_labels(alloc: Global, out: &mut Vec<u16>, labels: &[Text]) -> Result<(), AllocError>
     ensures { OnOk result (out.new.items
-        ≡ out.old.items ++ flat_map (λ label. ended (switch_line (label ∷ []))) labels.now) }
+        ≡ out.old.items ++ flat_map (λ label. with_lf (switch_line (label ∷ []))) labels.now) }
 {
     for label in labels {
         put_case(alloc, out, &[Word::Name(label.as_slice())])?;
@@ -66,7 +67,7 @@ fn put_labels(alloc: Global, out: &mut Vec<u16>, labels: &[Text]) -> Result<(), 
 
 /// Appends a line `number : label`.
 fn put_match(alloc: Global, out: &mut Vec<u16>, line: &MatchLine) -> Result<(), AllocError>
-    ensures { OnOk result (out.new.items ≡ out.old.items ++ ended (match_line line.now)) }
+    ensures { OnOk result (out.new.items ≡ out.old.items ++ with_lf (match_line line.now)) }
 {
     put_case(
         alloc,
@@ -82,7 +83,7 @@ fn put_match(alloc: Global, out: &mut Vec<u16>, line: &MatchLine) -> Result<(), 
 /// Appends the lines of matches.
 fn put_matches(alloc: Global, out: &mut Vec<u16>, matches: &[MatchLine]) -> Result<(), AllocError>
     ensures { OnOk result
-        (out.new.items ≡ out.old.items ++ flat_map (λ m. ended (match_line m)) matches.now) }
+        (out.new.items ≡ out.old.items ++ flat_map (λ m. with_lf (match_line m)) matches.now) }
 {
     for line in matches {
         put_match(alloc, out, line)?;
@@ -93,8 +94,8 @@ fn put_matches(alloc: Global, out: &mut Vec<u16>, matches: &[MatchLine]) -> Resu
 /// Appends the lines of a `tableswitch` after its first.
 fn put_table(alloc: Global, out: &mut Vec<u16>, lines: &TableLines) -> Result<(), AllocError>
     ensures { OnOk result (out.new.items
-        ≡ out.old.items ++ (flat_map (λ label. ended (switch_line (label ∷ []))) lines.now.labels
-        ++ ended (default_line lines.now.default))) }
+        ≡ out.old.items ++ (flat_map (λ label. with_lf (switch_line (label ∷ []))) lines.now.labels
+        ++ with_lf (default_line lines.now.default))) }
 {
     put_labels(alloc, out, lines.labels.as_slice())?;
     put_default(alloc, out, &lines.default)
@@ -103,8 +104,8 @@ fn put_table(alloc: Global, out: &mut Vec<u16>, lines: &TableLines) -> Result<()
 /// Appends the lines of a `lookupswitch` after its first.
 fn put_lookup(alloc: Global, out: &mut Vec<u16>, lines: &LookupLines) -> Result<(), AllocError>
     ensures { OnOk result
-        (out.new.items ≡ out.old.items ++ (flat_map (λ m. ended (match_line m)) lines.now.matches
-        ++ ended (default_line lines.now.default))) }
+        (out.new.items ≡ out.old.items ++ (flat_map (λ m. with_lf (match_line m)) lines.now.matches
+        ++ with_lf (default_line lines.now.default))) }
 {
     put_matches(alloc, out, lines.matches.as_slice())?;
     put_default(alloc, out, &lines.default)
@@ -112,7 +113,7 @@ fn put_lookup(alloc: Global, out: &mut Vec<u16>, lines: &LookupLines) -> Result<
 
 /// Appends the lines that follow that of an instruction's mnemonic.
 #[tactic(auto, using(crate::proofs::Ended::table_lines, crate::proofs::Ended::lookup_lines))]
-fn put_behind(alloc: Global, out: &mut Vec<u16>, operation: &Operation) -> Result<(), AllocError>
+fn put_after(alloc: Global, out: &mut Vec<u16>, operation: &Operation) -> Result<(), AllocError>
     ensures { OnOk result
         (out.new.items ≡ out.old.items ++ text_of_lines (lines_after operation.now)) }
 {
@@ -153,7 +154,7 @@ fn put_with<'a>(
     operand: Word<'a>,
 ) -> Result<(), AllocError>
     ensures { OnOk result (out.new.items ≡ out.old.items
-        ++ ended (codes "  " ++ joined (units_in name.entry ∷ units_in operand.entry ∷ []))) }
+        ++ with_lf (codes "  " ++ join_words (units_in name.entry ∷ units_in operand.entry ∷ []))) }
 {
     put_instruction(alloc, out, &[name, operand])
 }
@@ -166,8 +167,8 @@ fn put_with_two<'a>(
     first: Word<'a>,
     second: Word<'a>,
 ) -> Result<(), AllocError>
-    ensures { OnOk result (out.new.items ≡ out.old.items ++ ended (codes "  "
-        ++ joined (units_in name.entry ∷ units_in first.entry ∷ units_in second.entry ∷ []))) }
+    ensures { OnOk result (out.new.items ≡ out.old.items ++ with_lf (codes "  "
+        ++ join_words (units_in name.entry ∷ units_in first.entry ∷ units_in second.entry ∷ []))) }
 {
     put_instruction(alloc, out, &[name, first, second])
 }
@@ -180,8 +181,8 @@ fn put_invoke<'a>(
     how: Invoke,
     method: &'a MethodName,
 ) -> Result<(), AllocError>
-    ensures { OnOk result (out.new.items ≡ out.old.items ++ ended (codes "  "
-        ++ joined (units_in name.entry ∷ (member_word method.now.class method.now.name
+    ensures { OnOk result (out.new.items ≡ out.old.items ++ with_lf (codes "  "
+        ++ join_words (units_in name.entry ∷ (member_word method.now.class method.now.name
         ++ method.now.descriptor) ∷ count_words how method.now.descriptor))) }
 {
     let descriptor = method.descriptor.as_slice();
@@ -203,7 +204,7 @@ fn put_field_use<'a>(
     field: &'a FieldName,
 ) -> Result<(), AllocError>
     ensures { OnOk result
-        (out.new.items ≡ out.old.items ++ ended (codes "  " ++ joined (units_in name.entry
+        (out.new.items ≡ out.old.items ++ with_lf (codes "  " ++ join_words (units_in name.entry
         ∷ member_word field.now.class field.now.name ∷ field.now.descriptor ∷ []))) }
 {
     let member = Word::Member(field.class.as_slice(), field.name.as_slice());
@@ -219,8 +220,8 @@ fn put_increment(
     local: u16,
     by: i16,
 ) -> Result<(), AllocError>
-    ensures { OnOk result (out.new.items ≡ out.old.items ++ ended (codes "  "
-        ++ joined (units_in name.entry ∷ decimal local ∷ signed_decimal by ∷ []))) }
+    ensures { OnOk result (out.new.items ≡ out.old.items ++ with_lf (codes "  "
+        ++ join_words (units_in name.entry ∷ decimal local ∷ signed_decimal by ∷ []))) }
 {
     let local = Word::Number(i64::from(local));
     let by = Word::Number(i64::from(by));
@@ -235,8 +236,8 @@ fn put_array<'a>(
     class: &'a Text,
     dimensions: u8,
 ) -> Result<(), AllocError>
-    ensures { OnOk result (out.new.items ≡ out.old.items ++ ended (codes "  "
-        ++ joined (units_in name.entry ∷ class.now ∷ decimal dimensions ∷ []))) }
+    ensures { OnOk result (out.new.items ≡ out.old.items ++ with_lf (codes "  "
+        ++ join_words (units_in name.entry ∷ class.now ∷ decimal dimensions ∷ []))) }
 {
     let class = Word::Name(class.as_slice());
     let dimensions = Word::Number(i64::from(dimensions));
@@ -252,7 +253,7 @@ fn put_operation<'a>(
     operation: &'a Operation,
 ) -> Result<(), AllocError>
     ensures { OnOk result (out.new.items ≡ out.old.items
-        ++ ended (codes "  " ++ joined (units_in name.entry ∷ operand_words operation.now))) }
+        ++ with_lf (codes "  " ++ join_words (units_in name.entry ∷ operand_words operation.now))) }
 {
     let operand = match operation {
         Operation::Alone(_) | Operation::Lookup(_) => {
@@ -281,7 +282,7 @@ fn put_operation<'a>(
 
 /// Appends the line of a label.
 fn put_label(out: &mut Vec<u16>, name: &[u16]) -> Result<(), AllocError>
-    ensures { OnOk result (out.new.items ≡ out.old.items ++ ended (name.now ++ codes ":")) }
+    ensures { OnOk result (out.new.items ≡ out.old.items ++ with_lf (name.now ++ codes ":")) }
 {
     out.extend_from_slice(name)?;
     put_ascii(out, ":\n")
@@ -293,13 +294,13 @@ fn put_operation_lines(
     out: &mut Vec<u16>,
     operation: &Operation,
 ) -> Result<(), AllocError>
-    ensures { OnOk result (out.new.items ≡ out.old.items ++ (ended (codes "  "
-        ++ joined (mnemonic (opcode_of operation.now) ∷ operand_words operation.now))
+    ensures { OnOk result (out.new.items ≡ out.old.items ++ (with_lf (codes "  "
+        ++ join_words (mnemonic (opcode_of operation.now) ∷ operand_words operation.now))
         ++ text_of_lines (lines_after operation.now))) }
 {
     let name = Word::Ascii(mnemonic(opcode_of(operation)));
     put_operation(alloc, out, name, operation)?;
-    put_behind(alloc, out, operation)
+    put_after(alloc, out, operation)
 }
 
 /// Appends the lines of a label or an instruction.

@@ -5,9 +5,9 @@ ghost use Rattle.std.specs.Fmt.{decimal};
 ghost use Rattle.std.specs.List.{flat_map};
 ghost use Rattle.jasmin.specs.Denote.{has_code};
 ghost use Rattle.jasmin.specs.Operands.{field_words, method_words};
-ghost use Rattle.listing_spec.specs.Printed.{joined, access_names, value_words, field_line, caught_word, catch_line, throws_line, body_lines, method_text};
+ghost use Rattle.listing_spec.specs.Printed.{join_words, access_names, value_words, field_line, caught_word, catch_line, throws_line, body_lines, method_text};
 ghost use Rattle.source_text.specs.Words.{units_in};
-ghost use Rattle.source_text.specs.Lines.{ended, text_of_lines};
+ghost use Rattle.source_text.specs.Lines.{with_lf, text_of_lines};
 
 use crate::access::{push_field_words, push_method_words, push_word};
 use crate::code::put_code;
@@ -53,7 +53,7 @@ fn words_of_field<'a>(alloc: Global, field: &'a FieldLine) -> Result<Vec<Word<'a
 /// Appends the line of a field.
 #[tactic(auto, unfolding(listing_spec::specs::Printed::field_line))]
 fn put_field(alloc: Global, out: &mut Vec<u16>, field: &FieldLine) -> Result<(), AllocError>
-    ensures { OnOk result (out.new.items ≡ out.old.items ++ ended (field_line field.now)) }
+    ensures { OnOk result (out.new.items ≡ out.old.items ++ with_lf (field_line field.now)) }
 {
     let words = words_of_field(alloc, field)?;
     put_line(alloc, out, &words)
@@ -66,7 +66,7 @@ pub(crate) fn put_fields(
     fields: &[FieldLine],
 ) -> Result<(), AllocError>
     ensures { OnOk result
-        (out.new.items ≡ out.old.items ++ flat_map (λ f. ended (field_line f)) fields.now) }
+        (out.new.items ≡ out.old.items ++ flat_map (λ f. with_lf (field_line f)) fields.now) }
 {
     for field in fields {
         put_field(alloc, out, field)?;
@@ -93,7 +93,7 @@ fn words_of_method<'a>(alloc: Global, method: &'a MethodLines) -> Result<Vec<Wor
 
 /// Appends the line of an exception that a method throws.
 fn put_thrown(alloc: Global, out: &mut Vec<u16>, name: &Text) -> Result<(), AllocError>
-    ensures { OnOk result (out.new.items ≡ out.old.items ++ ended (throws_line name.now)) }
+    ensures { OnOk result (out.new.items ≡ out.old.items ++ with_lf (throws_line name.now)) }
 {
     let name = Word::Name(name.as_slice());
     put_line(alloc, out, &[Word::Ascii(".throws"), name])
@@ -102,7 +102,7 @@ fn put_thrown(alloc: Global, out: &mut Vec<u16>, name: &Text) -> Result<(), Allo
 /// Appends the lines of the exceptions that a method throws.
 fn put_throws(alloc: Global, out: &mut Vec<u16>, names: &[Text]) -> Result<(), AllocError>
     ensures { OnOk result
-        (out.new.items ≡ out.old.items ++ flat_map (λ name. ended (throws_line name)) names.now) }
+        (out.new.items ≡ out.old.items ++ flat_map (λ name. with_lf (throws_line name)) names.now) }
 {
     for name in names {
         put_thrown(alloc, out, name)?;
@@ -122,7 +122,7 @@ fn caught_word(caught: &Caught) -> Word<'_>
 
 /// Appends the line of a handler.
 fn put_catch(alloc: Global, out: &mut Vec<u16>, line: &CatchLine) -> Result<(), AllocError>
-    ensures { OnOk result (out.new.items ≡ out.old.items ++ ended (catch_line line.now)) }
+    ensures { OnOk result (out.new.items ≡ out.old.items ++ with_lf (catch_line line.now)) }
 {
     put_line(
         alloc,
@@ -143,7 +143,7 @@ fn put_catch(alloc: Global, out: &mut Vec<u16>, line: &CatchLine) -> Result<(), 
 /// Appends the lines of handlers.
 fn put_catches(alloc: Global, out: &mut Vec<u16>, catches: &[CatchLine]) -> Result<(), AllocError>
     ensures { OnOk result
-        (out.new.items ≡ out.old.items ++ flat_map (λ c. ended (catch_line c)) catches.now) }
+        (out.new.items ≡ out.old.items ++ flat_map (λ c. with_lf (catch_line c)) catches.now) }
 {
     for line in catches {
         put_catch(alloc, out, line)?;
@@ -159,8 +159,9 @@ fn put_limits(
     max_locals: u16,
 ) -> Result<(), AllocError>
     ensures { OnOk result (out.new.items
-        ≡ out.old.items ++ (ended (joined (codes ".limit" ∷ codes "stack" ∷ decimal max_stack ∷ []))
-        ++ ended (joined (codes ".limit" ∷ codes "locals" ∷ decimal max_locals ∷ [])))) }
+        ≡ out.old.items
+        ++ (with_lf (join_words (codes ".limit" ∷ codes "stack" ∷ decimal max_stack ∷ []))
+        ++ with_lf (join_words (codes ".limit" ∷ codes "locals" ∷ decimal max_locals ∷ [])))) }
 {
     let stack = Word::Number(i64::from(max_stack));
     let locals = Word::Number(i64::from(max_locals));

@@ -3,9 +3,9 @@
 ghost use Rattle.std.specs.Prelude.{◌≡◌, ◌++◌, ◌∷◌, ◌<◌, [], map, OnOk};
 ghost use Rattle.std.specs.List.{flat_map};
 ghost use Rattle.std.specs.Fmt.{signed_decimal};
-ghost use Rattle.listing_spec.specs.Printed.{hexadecimal, four_digits, escaped, quoted, member_word, joined};
+ghost use Rattle.listing_spec.specs.Printed.{hexadecimal, four_digits, escape_of, quotation, member_word, join_words};
 ghost use Rattle.source_text.specs.Words.{units_in};
-ghost use Rattle.source_text.specs.Lines.{ended};
+ghost use Rattle.source_text.specs.Lines.{with_lf};
 
 use std::alloc::{AllocError, Global};
 
@@ -75,7 +75,7 @@ fn put_numbered(out: &mut Vec<u16>, unit: u16) -> Result<(), AllocError>
 
 /// Appends a unit of a text in quotes.
 fn put_escaped(out: &mut Vec<u16>, unit: u16) -> Result<(), AllocError>
-    ensures { OnOk result (out.new.items ≡ out.old.items ++ escaped unit) }
+    ensures { OnOk result (out.new.items ≡ out.old.items ++ escape_of unit) }
 {
     match unit {
         10 => put_ascii(out, "\\n"),
@@ -95,7 +95,7 @@ fn put_escaped(out: &mut Vec<u16>, unit: u16) -> Result<(), AllocError>
 
 /// Appends the units of a text in quotes.
 fn put_inside(out: &mut Vec<u16>, text: &[u16]) -> Result<(), AllocError>
-    ensures { OnOk result (out.new.items ≡ out.old.items ++ flat_map escaped text.now) }
+    ensures { OnOk result (out.new.items ≡ out.old.items ++ flat_map escape_of text.now) }
 {
     for unit in text {
         put_escaped(out, *unit)?;
@@ -104,9 +104,9 @@ fn put_inside(out: &mut Vec<u16>, text: &[u16]) -> Result<(), AllocError>
 }
 
 /// Appends a text in quotes.
-#[tactic(auto, unfolding(listing_spec::specs::Printed::quoted))]
+#[tactic(auto, unfolding(listing_spec::specs::Printed::quotation))]
 fn put_quoted(out: &mut Vec<u16>, text: &[u16]) -> Result<(), AllocError>
-    ensures { OnOk result (out.new.items ≡ out.old.items ++ quoted text.now) }
+    ensures { OnOk result (out.new.items ≡ out.old.items ++ quotation text.now) }
 {
     out.push(QUOTE)?;
     put_inside(out, text)?;
@@ -182,7 +182,7 @@ fn put_others(alloc: Global, out: &mut Vec<u16>, words: &[Word<'_>]) -> Result<(
 /// Appends words, separated by single spaces.
 #[tactic(auto, using(crate::proofs::Joined::no_words, crate::proofs::Joined::some_words))]
 fn put_words(alloc: Global, out: &mut Vec<u16>, words: &[Word<'_>]) -> Result<(), AllocError>
-    ensures { OnOk result (out.new.items ≡ out.old.items ++ joined (map units_in words.now)) }
+    ensures { OnOk result (out.new.items ≡ out.old.items ++ join_words (map units_in words.now)) }
 {
     match words {
         [] => Ok(()),
@@ -200,7 +200,7 @@ pub(crate) fn put_line(
     words: &[Word<'_>],
 ) -> Result<(), AllocError>
     ensures { OnOk result
-        (out.new.items ≡ out.old.items ++ ended (joined (map units_in words.now))) }
+        (out.new.items ≡ out.old.items ++ with_lf (join_words (map units_in words.now))) }
 {
     put_words(alloc, out, words)?;
     out.push(LINE_FEED)?;

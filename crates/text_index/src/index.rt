@@ -3,7 +3,7 @@
 ghost use Rattle.std.specs.Prelude.{◌≡◌, ℕ, List, [], IfOk, OnOk, OnErr, Some, None, if◌then◌else◌};
 ghost use Rattle.std.specs.Option.{option_or};
 ghost use Rattle.jvms_file.specs.Names.{same_text};
-ghost use Rattle.text_index.specs.Found.{found};
+ghost use Rattle.text_index.specs.Lookup.{indexed_reference};
 
 mod removal;
 
@@ -47,15 +47,15 @@ impl Index {
     /// Returns the reference of a text.
     #[tactic(auto, using(crate::proofs::IndexLaws::found_among))]
     pub fn find(&self, units: &[u16]) -> Option<u32>
-        ensures { result ≡ found self.now units.now }
+        ensures { result ≡ indexed_reference self.now units.now }
     {
         self.references.get(units).copied()
     }
 
     /// Stores a reference for a text. Without memory nothing changes.
     fn put_new(&mut self, alloc: Global, units: &[u16], reference: u32) -> Result<(), AllocError>
-        ensures ok { OnOk result ((q : List ℕ) → found self.new q
-            ≡ (if same_text units.now q then Some reference else found self.old q)) }
+        ensures ok { OnOk result ((q : List ℕ) → indexed_reference self.new q
+            ≡ (if same_text units.now q then Some reference else indexed_reference self.old q)) }
         ensures err { OnErr result (self.new ≡ self.old) }
     {
         let key = Vec::from_slice(alloc, units)?;
@@ -66,7 +66,8 @@ impl Index {
     /// Stores a reference for a text, unless the text has one. Without memory nothing changes.
     #[tactic(auto, using(crate::proofs::IndexLaws::put_first, crate::proofs::IndexLaws::put_again))]
     pub fn put(&mut self, alloc: Global, units: &[u16], reference: u32) -> Result<(), AllocError>
-        ensures ok { OnOk result ((q : List ℕ) → found self.new q ≡ option_or (found self.old q)
+        ensures ok { OnOk result ((q : List ℕ) → indexed_reference self.new q
+            ≡ option_or (indexed_reference self.old q)
             (if same_text units.now q then Some reference else None)) }
         ensures err { OnErr result (self.new ≡ self.old) }
     {

@@ -9,19 +9,19 @@ use Rattle.velodrome.specs.Transactions.{ThreadState}
 use Rattle.thread_states.specs.ThreadStates.{thread_state_in, no_thread_state, IsChanged}
 use Rattle.thread_states.specs.Open.{Open, IsRoomy}
 use Rattle.thread_states.specs.declared.open.OpenMethod.{OpenMethod}
-use Rattle.thread_states.specs.Seen.{Seen, course_of, table_of, rooms_of, room_in, HasRoom, IsMarked, AreMarked}
+use Rattle.thread_states.specs.Seen.{Seen, state_of, table_of, rooms_of, room_in, HasRoom, IsMarked, AreMarked}
 use Rattle.thread_states.proofs.Marks.{written_marked, inserted_marked}
-use Rattle.thread_states.proofs.Tables.{Threads, found, course_from, room_from, course_found, room_found, changed}
+use Rattle.thread_states.proofs.Tables.{Threads, found, state_from, room_from, state_found, room_found, changed}
 
 abbrev pub kept : Specification → Threads → Seen
 kept lines threads = record { lines = lines; table = table_of threads; rooms = rooms_of threads }
 
 -- An answer about one thread's state is one about the table.
 pub told : {X : Type 0} (f : Specification → ThreadState → X) (t : ℕ) (o : Option Open) (lines : Specification) (threads : Threads) (now : Seen)
-    → kept lines threads ≡ now → o ≡ found t threads → f lines (course_from o) ≡ f now.lines (thread_state_in now.table t)
+    → kept lines threads ≡ now → o ≡ found t threads → f lines (state_from o) ≡ f now.lines (thread_state_in now.table t)
 told f t o lines threads now view is =
-    let P : Seen → Type 0 = λ s. f lines (course_from o) ≡ f s.lines (thread_state_in s.table t) in
-    subst P view (ap (f lines) (course_found t threads o is))
+    let P : Seen → Type 0 = λ s. f lines (state_from o) ≡ f s.lines (thread_state_in s.table t) in
+    subst P view (ap (f lines) (state_found t threads o is))
 
 pub room_told : (t : ℕ) (o : Option Open) (lines : Specification) (threads : Threads) (now : Seen)
     → kept lines threads ≡ now → o ≡ found t threads → HasRoom t now → 0 < room_from o
@@ -42,13 +42,13 @@ is_written t p o old new is writes =
     (writes.3 (subst Q is refl)).0
 
 pub changes : (f : Specification → ThreadState → ThreadState) (t : ℕ) (before : Option Open) (o : Open) (lines : Specification) (old new : Threads) (now : Seen)
-    → kept lines old ≡ now → before ≡ found t old → IsPut t o old new → course_of o ≡ f lines (course_from before)
+    → kept lines old ≡ now → before ≡ found t old → IsPut t o old new → state_of o ≡ f lines (state_from before)
     → IsChanged t (f now.lines (thread_state_in now.table t)) now.table (table_of new)
 changes f t before o lines old new now view is put same =
     let P : Seen → Type 0 = λ s. IsChanged t (f s.lines (thread_state_in s.table t)) s.table (table_of new) in
     subst P view (λ u.
     changed t u o old new (put u)
-    ∙ ap (λ (k : ThreadState). if u == t then k else thread_state_in (table_of old) u) (same ∙ ap (f lines) (course_found t old before is)))
+    ∙ ap (λ (k : ThreadState). if u == t then k else thread_state_in (table_of old) u) (same ∙ ap (f lines) (state_found t old before is)))
 
 same_place : (t u : ℕ) → (u == t) ≡ true → t ≡ u
 same_place t u same = grind (arith, nat_tests)
@@ -63,7 +63,7 @@ pub stays : (f : Specification → ThreadState → ThreadState) (t : ℕ) (lines
     → IsChanged t (f now.lines (thread_state_in now.table t)) now.table (table_of new)
 stays f t lines old new now view same none nothing =
     let P : Seen → Type 0 = λ s. IsChanged t (f s.lines (thread_state_in s.table t)) s.table (table_of new) in
-    let is : no_thread_state ≡ thread_state_in (table_of old) t = course_found t old None none in
+    let is : no_thread_state ≡ thread_state_in (table_of old) t = state_found t old None none in
     subst P view (λ u.
     ap (λ (l : Threads). thread_state_in (table_of l) u) same
     ∙ sym (same_at (u == t) t u (thread_state_in (table_of old)) refl)
@@ -74,7 +74,7 @@ abbrev pub IsSame : List (ℕ × ThreadState) → List (ℕ × ThreadState) → 
 IsSame old new = (u : ℕ) → thread_state_in new u ≡ thread_state_in old u
 
 pub nothing_changes : (t : ℕ) (before : Option Open) (o : Open) (lines : Specification) (old new : Threads) (now : Seen)
-    → kept lines old ≡ now → before ≡ found t old → IsPut t o old new → course_of o ≡ course_from before
+    → kept lines old ≡ now → before ≡ found t old → IsPut t o old new → state_of o ≡ state_from before
     → IsSame now.table (table_of new)
 nothing_changes t before o lines old new now view is put same =
     λ u. changes (λ l k. k) t before o lines old new now view is put same u ∙ same_at (u == t) t u (thread_state_in now.table) refl

@@ -3,4 +3,4 @@ pub mod Marks
 pub mod Steps
 pub mod Tables
 pub mod Tops
-pub mod Standings
+pub mod Positions

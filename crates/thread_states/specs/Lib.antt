@@ -1,4 +1,4 @@
 pub mod ThreadStates
 pub mod Open
 pub mod Seen
-pub mod Standings
+pub mod Positions

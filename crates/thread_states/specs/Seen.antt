@@ -12,11 +12,11 @@ pub record Seen : Type 0 where
   pub table : List (ℕ × ThreadState)
   pub rooms : List (ℕ × ℕ)
 
-abbrev pub course_of : Open → ThreadState
-course_of o = record { methods = keys_of o.methods; transaction = o.transaction }
+abbrev pub state_of : Open → ThreadState
+state_of o = record { methods = keys_of o.methods; transaction = o.transaction }
 
 abbrev pub table_of : List (ℕ × Open) → List (ℕ × ThreadState)
-table_of threads = map (λ e. (e.0, course_of e.1)) threads
+table_of threads = map (λ e. (e.0, state_of e.1)) threads
 
 abbrev pub rooms_of : List (ℕ × Open) → List (ℕ × ℕ)
 rooms_of threads = map (λ e. (e.0, e.1.room)) threads

@@ -12,4 +12,4 @@ thread_state_in (e ∷ es) t = if t == e.0 then e.1 else thread_state_in es t
 
 -- The state of thread t is replaced, and all others are unchanged.
 abbrev pub IsChanged : ℕ → ThreadState → List (ℕ × ThreadState) → List (ℕ × ThreadState) → Type 0
-IsChanged t course old new = (u : ℕ) → thread_state_in new u ≡ (if u == t then course else thread_state_in old u)
+IsChanged t state old new = (u : ℕ) → thread_state_in new u ≡ (if u == t then state else thread_state_in old u)

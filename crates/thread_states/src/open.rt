@@ -5,7 +5,7 @@ ghost use Rattle.std.specs.Option.{option_copied};
 ghost use Rattle.velodrome.specs.Transactions.{same_method, is_innermost};
 ghost use Rattle.thread_states.specs.Open.{any_atomic, keys_of, AreInner, IsRoomy};
 
-use crate::standing::Standing;
+use crate::position::ThreadPosition;
 use jvms_program::key::MethodKey;
 use std::alloc::{AllocError, Global};
 use std::marker::Model;
@@ -100,11 +100,11 @@ impl OpenMethods {
     }
 
     /// Returns the transaction that the thread is in, and whether one of the methods is atomic.
-    pub(crate) fn standing(&self) -> Standing
+    pub(crate) fn position(&self) -> ThreadPosition
         ensures transaction { result.transaction ≡ self.now.transaction }
         ensures is_in_atomic { result.is_in_atomic ≡ any_atomic self.now.methods }
     {
-        Standing {
+        ThreadPosition {
             transaction: self.transaction,
             is_in_atomic: self.is_in_atomic(),
         }
@@ -122,13 +122,13 @@ impl OpenMethods {
         }
     }
 
-    /// Returns the standing of the thread if there is memory for one more method.
-    pub(crate) fn ready_standing(&self) -> Option<Standing>
+    /// Returns the position of the thread if there is memory for one more method.
+    pub(crate) fn ready_position(&self) -> Option<ThreadPosition>
         ensures { IfSome result (λ s. (s.transaction ≡ self.now.transaction)
             × (s.is_in_atomic ≡ any_atomic self.now.methods) × (0 < self.now.room)) }
     {
         if self.methods.len() < self.methods.capacity() {
-            Some(self.standing())
+            Some(self.position())
         } else {
             None
         }

@@ -1,7 +1,7 @@
 //! Decides what happens to the items of turns: they are recorded or dropped.
 
 ghost use Rattle.std.specs.Prelude.{◌≡◌, ◌∷◌, [], false, None, Some, IsSome, IsTrue, OnOk, OnErr};
-ghost use Rattle.trace.specs.Recording.{recorded, count_of, cut};
+ghost use Rattle.trace.specs.Recording.{with_items, count_of, first_items};
 
 use crate::list::Trace;
 use jvms_machine::trace::Item;
@@ -70,7 +70,7 @@ impl Recording {
     /// Appends an item, if items are recorded. Without memory for it nothing changes.
     #[inline(always)]
     pub fn push(&mut self, item: Item) -> Result<(), AllocError>
-        ensures ok { OnOk result (self.new ≡ recorded self.old (item ∷ [])) }
+        ensures ok { OnOk result (self.new ≡ with_items self.old (item ∷ [])) }
         ensures err { OnErr result (self.new ≡ self.old) }
     {
         match &mut self.trace {
@@ -82,7 +82,7 @@ impl Recording {
     /// Drops the recorded items after the first `count`.
     #[inline(always)]
     pub fn truncate(&mut self, count: usize)
-        ensures { self.new ≡ cut count self.old }
+        ensures { self.new ≡ first_items count self.old }
     {
         if let Some(trace) = &mut self.trace {
             trace.truncate(count);

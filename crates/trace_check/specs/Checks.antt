@@ -14,7 +14,7 @@ use Rattle.trace_text.specs.Traces.{IsRead, IsTextOf}
 use Rattle.atom_graph.specs.declared.counts.Counts.{Counts}
 use Rattle.atom_graph.specs.declared.fault.FeedFault.{FeedFault}
 use Rattle.atom_graph.specs.declared.fault.FeedFault.TheVariants as feed
-use Rattle.atom_graph.specs.Checking.{Fed, fault_of, walk_of, with_item}
+use Rattle.atom_graph.specs.Checking.{Fed, fault_of, state_of_fed, with_item}
 use Rattle.report.specs.CycleTexts.{explanation}
 use Rattle.report.specs.SerialTexts.{serial_text}
 use Rattle.report.specs.VerdictTexts.{verdict_text}
@@ -67,7 +67,7 @@ AreSerialLines w items part = (numbers : List ℕ) × IsSerial w.events numbers 
 -- The text follows the line of an atomic trace: the events in a serial order, if they are requested.
 abbrev pub IsSerialPart : Fed → Bool → List ℕ → Type 0
 IsSerialPart fed false part = part ≡ []
-IsSerialPart fed true part = AreSerialLines (walk_of fed) fed.items part
+IsSerialPart fed true part = AreSerialLines (state_of_fed fed) fed.items part
 
 -- Returns what follows the line of a cycle: the lines that explain it, if they are requested. The turns of a trace are
 -- unknown.
@@ -82,14 +82,14 @@ IsPart fed details (verdict.Cycle first_at transactions pairs) part =
 
 abbrev pub IsSaid : Fed → Details → Verdict → List ℕ → Type 0
 IsSaid fed details v said =
-    (part : List ℕ) × IsPart fed details v part × (said ≡ verdict_text v (counts_of (walk_of fed)) ++ part)
+    (part : List ℕ) × IsPart fed details v part × (said ≡ verdict_text v (counts_of (state_of_fed fed)) ++ part)
 
 -- The text has items that are all accepted, the verdict is theirs, and this is its text.
 pub record IsChecked (lines : Specification) (text : List ℕ) (details : Details) (v : Verdict) (said : List ℕ) : Type 0 where
   pub items : List Item
   pub spelled : IsTextOf text items
   pub taken : first_refused (fed_nothing lines) 1 items ≡ None
-  pub judged : IsVerdict (walk_of (record { lines = lines; items = items })) v
+  pub judged : IsVerdict (state_of_fed (record { lines = lines; items = items })) v
   pub text_is : IsSaid (record { lines = lines; items = items }) details v said
 
 -- The text of the verdict was written, and nothing else.

@@ -4,7 +4,7 @@ ghost use Rattle.std.specs.Prelude.{◌≡◌, ◌≢◌, IfOk, IfErr};
 ghost use Rattle.std.specs.String.{string_bytes};
 ghost use Rattle.velodrome.specs.Cycles.{AreAtomic};
 ghost use Rattle.velodrome.specs.Verdicts.{IsVerdict};
-ghost use Rattle.atom_graph.specs.Checking.{walk_of};
+ghost use Rattle.atom_graph.specs.Checking.{state_of_fed};
 ghost use Rattle.trace_check.specs.Checks.{AreSerialLines, IsChecked, IsFault, IsFedText, IsPart, IsSaid, IsSerialPart, explained_part};
 
 use crate::details::Details;
@@ -27,9 +27,9 @@ pub struct Checked {
 
 /// Returns the lines of the events of an atomic trace in a serial order.
 fn atomic_part(alloc: Global, checker: &Checker, items: &[Item]) -> Result<String, AllocError>
-    requires { AreAtomic (walk_of checker.now).events }
+    requires { AreAtomic (state_of_fed checker.now).events }
     ensures { IfOk result
-        (λ part. AreSerialLines (walk_of checker.now) items.now (string_bytes part)) }
+        (λ part. AreSerialLines (state_of_fed checker.now) items.now (string_bytes part)) }
 {
     match checker.serial()? {
         Some(numbers) => serial_lines(alloc, items, numbers.as_slice()),
@@ -45,7 +45,7 @@ fn serial_part(
     items: &[Item],
     serial: bool,
 ) -> Result<String, AllocError>
-    requires atomic { AreAtomic (walk_of checker.now).events }
+    requires atomic { AreAtomic (state_of_fed checker.now).events }
     requires items { items.now ≡ checker.now.items }
     ensures { IfOk result (λ part. IsSerialPart checker.now serial (string_bytes part)) }
 {
@@ -81,7 +81,7 @@ fn part_of(
     verdict: &Verdict,
     details: Details,
 ) -> Result<String, AllocError>
-    requires verdict { IsVerdict (walk_of checker.now) verdict.now }
+    requires verdict { IsVerdict (state_of_fed checker.now) verdict.now }
     requires items { items.now ≡ checker.now.items }
     ensures { IfOk result (λ part. IsPart checker.now details verdict.now (string_bytes part)) }
 {
@@ -99,7 +99,7 @@ fn verdict_with_text(
     details: Details,
 ) -> Result<Checked, AllocError>
     requires items { items.now ≡ checker.now.items }
-    ensures verdict { IfOk result (λ c. IsVerdict (walk_of checker.now) c.verdict) }
+    ensures verdict { IfOk result (λ c. IsVerdict (state_of_fed checker.now) c.verdict) }
     ensures text { IfOk result (λ c. IsSaid checker.now details c.verdict (string_bytes c.text)) }
 {
     let verdict = checker.verdict()?;

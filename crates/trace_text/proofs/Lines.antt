@@ -12,7 +12,7 @@ use Rattle.jvms_program.specs.declared.key.MethodKey.{MethodKey}
 use Rattle.escapes.specs.Cuts.{has, IsCutTwice}
 use Rattle.escapes.specs.Keys.{IsMethodKey, member_text, field_text, method_text}
 use Rattle.escapes.specs.Readings.{IsReadAs}
-use Rattle.escapes.specs.Escapes.{spelled}
+use Rattle.escapes.specs.Escapes.{name_text}
 use Rattle.escapes.proofs.Cutting.{one_cut}
 use Rattle.escapes.proofs.Members.{AreParts, SameParts, one_cutting, parts_along, has_append, spelled_no_low}
 use Rattle.trace_text.specs.declared.word.Word.{Word}
@@ -129,12 +129,12 @@ word_no_end word.Exit = refl
 number_no_end : (n : ℕ) → IsNumber n → has 10 (decimal n) ≡ false
 number_no_end n is = number_below 10 n (omega arith) is
 
-name_no_end : (us : List ℕ) → has 10 (spelled us) ≡ false
+name_no_end : (us : List ℕ) → has 10 (name_text us) ≡ false
 name_no_end us = spelled_no_low 10 us (omega arith)
 
 member_no_end : (class name descriptor : List ℕ) → has 10 (member_text class name descriptor) ≡ false
 member_no_end class name descriptor =
-    has_append 10 (spelled class ++ 46 ∷ spelled name) (46 ∷ spelled descriptor) (has_append 10 (spelled class) (46 ∷ spelled name) (name_no_end class) (name_no_end name)) (name_no_end descriptor)
+    has_append 10 (name_text class ++ 46 ∷ name_text name) (46 ∷ name_text descriptor) (has_append 10 (name_text class) (46 ∷ name_text name) (name_no_end class) (name_no_end name)) (name_no_end descriptor)
 
 variable_no_end : (v : Variable) → IsVariable v → has 10 (variable_text v) ≡ false
 variable_no_end (variable.Instance r f) is = has_append 10 (decimal r) (46 ∷ field_text f) (number_no_end r is.0) (member_no_end f.class f.name f.descriptor)

@@ -126,7 +126,7 @@ no_fault_in (b ∷ before) (i ∷ items) rest left right e fault =
     no_fault_in before items rest left.1 right.1 parts.1 fault
 
 pub no_fault : (text : List ℕ) (items : List Item) (line : ℕ) → IsTextOf text items → IsFaulty text line → ⊥
-no_fault text items line is fault = no_fault_in fault.items items fault.rest fault.may_stand is.may_stand (sym fault.split ∙ is.written) fault.fault
+no_fault text items line is fault = no_fault_in fault.items items fault.rest fault.are_valid is.are_valid (sym fault.split ∙ is.written) fault.fault
 
 -- Two prefixes of a text that both end before the first faulty line have the same length.
 same_length : (xs ys : List Item) (left_rest right_rest : List ℕ) → AllByRecursion IsItem xs → AllByRecursion IsItem ys → trace_text xs ++ left_rest ≡ trace_text ys ++ right_rest
@@ -143,11 +143,11 @@ same_length (x ∷ xs) (y ∷ ys) left_rest right_rest xa ya e left right =
 
 pub one_fault : (text : List ℕ) (j k : ℕ) → IsFaulty text j → IsFaulty text k → j ≡ k
 one_fault text j k left right =
-    let same = same_length left.items right.items left.rest right.rest left.may_stand right.may_stand (sym left.split ∙ right.split) left.fault right.fault in
+    let same = same_length left.items right.items left.rest right.rest left.are_valid right.are_valid (sym left.split ∙ right.split) left.fault right.fault in
     left.count ∙ ap suc same ∙ sym right.count
 
 -- Reading the text of items returns the same items.
 pub read_again : (items : List Item) (answer : Result (List Item) TraceFault) → AllByRecursion IsItem items → IsRead (trace_text items) answer → (answer ≡ Ok items) ⊎ (answer ≡ Err fault.Memory)
-read_again items (Ok again) are read = inl (ap (λ (xs : List Item). Ok xs) (sym (one_trace items again are read.may_stand read.written)))
-read_again items (Err (fault.Syntax line)) are read = absurd (no_fault (trace_text items) items line (record { may_stand = are; written = refl }) read)
+read_again items (Ok again) are read = inl (ap (λ (xs : List Item). Ok xs) (sym (one_trace items again are read.are_valid read.written)))
+read_again items (Err (fault.Syntax line)) are read = absurd (no_fault (trace_text items) items line (record { are_valid = are; written = refl }) read)
 read_again items (Err fault.Memory) are read = inr refl

@@ -16,7 +16,7 @@ trace_text items = flat_map item_line items
 
 -- The text is that of these items, and a text may have them.
 pub record IsTextOf (text : List ℕ) (items : List Item) : Type 0 where
-  pub may_stand : AllByRecursion IsItem items
+  pub are_valid : AllByRecursion IsItem items
   pub written : text ≡ trace_text items
 
 -- The text is not empty, and it begins with no item's line.
@@ -28,7 +28,7 @@ pub record BeginsWithNoItem (text : List ℕ) : Type 0 where
 pub record IsFaulty (text : List ℕ) (line : ℕ) : Type 0 where
   pub items : List Item
   pub rest : List ℕ
-  pub may_stand : AllByRecursion IsItem items
+  pub are_valid : AllByRecursion IsItem items
   pub split : text ≡ trace_text items ++ rest
   pub count : line ≡ suc (length items)
   pub fault : BeginsWithNoItem rest

@@ -56,7 +56,7 @@ fn thread_of(item: &Item) -> ThreadId
 fn put_touched(out: &mut String, item: &Item) -> Result<(), AllocError>
     ensures exact { OnOk result
         (string_bytes out.new ≡ string_bytes out.old ++ touched_text item.now) }
-    ensures behind { OnErr result (StartsWith (string_bytes out.new) (string_bytes out.old)) }
+    ensures appended { OnErr result (StartsWith (string_bytes out.new) (string_bytes out.old)) }
 {
     match item {
         Item::Read { variable, .. } | Item::Write { variable, .. } => put_variable(out, variable),
@@ -73,7 +73,7 @@ fn put_touched(out: &mut String, item: &Item) -> Result<(), AllocError>
 pub(crate) fn put_item(out: &mut String, item: &Item) -> Result<(), AllocError>
     ensures exact { OnOk result
         (string_bytes out.new ≡ string_bytes out.old ++ item_text item.now) }
-    ensures behind { OnErr result (StartsWith (string_bytes out.new) (string_bytes out.old)) }
+    ensures appended { OnErr result (StartsWith (string_bytes out.new) (string_bytes out.old)) }
 {
     out.push_str(kind_of(item).text())?;
     out.push_str(" ")?;

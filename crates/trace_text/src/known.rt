@@ -13,14 +13,14 @@ const SLOTS: usize = 512;
 /// A field or a method, as the lines of a trace spell it.
 pub(crate) trait Member: Drop {
     // The condition under which a text may have the member.
-    ghost may_stand: { Self → Type 0 };
+    ghost is_valid: { Self → Type 0 };
 
     // The text of the member.
     ghost text_of: { Self → List ℕ };
 
     /// Reads a member from its text. Returns `None` if the text is no member.
     fn read(alloc: Global, text: &[u8]) -> Result<Option<Self>, AllocError>
-        ensures { IfOk result (IsReadAs may_stand text_of text.now) };
+        ensures { IfOk result (IsReadAs is_valid text_of text.now) };
 
     /// Clones the member. The clone shares its names.
     fn share(&self) -> Result<Self, AllocError>
@@ -41,14 +41,14 @@ impl<'t, M: Member> Model for Known<'t, M> {
 
     ghost view = { λ k. (k.text.now, k.member) };
 
-    ghost invariant = { λ k. M.may_stand k.member × (k.text.now ≡ M.text_of k.member) };
+    ghost invariant = { λ k. M.is_valid k.member × (k.text.now ≡ M.text_of k.member) };
 }
 
 impl<'t, M: Member> Known<'t, M> {
     /// Returns a clone of the member if the text is its text.
     fn of(&self, text: &[u8]) -> Result<Option<M>, AllocError>
         ensures { IfOk result
-            (λ o. MatchOption o (Unit {0}) (λ m. M.may_stand m × (text.now ≡ M.text_of m))) }
+            (λ o. MatchOption o (Unit {0}) (λ m. M.is_valid m × (text.now ≡ M.text_of m))) }
     {
         if self.text == text {
             Ok(Some(self.member.share()?))
@@ -60,11 +60,11 @@ impl<'t, M: Member> Known<'t, M> {
 
 /// Returns the slot of a text in the cache, by a hash.
 fn slot_of(text: &[u8]) -> usize {
-    let mut sum: u32 = 0;
+    let mut hash: u32 = 0;
     for byte in text {
-        sum = sum.wrapping_mul(31).wrapping_add(u32::from(*byte));
+        hash = hash.wrapping_mul(31).wrapping_add(u32::from(*byte));
     }
-    sum as usize % SLOTS
+    hash as usize % SLOTS
 }
 
 /// A direct-mapped cache of members. Each text has one slot, and a new member replaces the old one there.
@@ -86,7 +86,7 @@ impl<'t, M: Member> Members<'t, M> {
 
     /// Reads a member from its text, by the cache if it is there. Returns `None` if the text is no member.
     pub(crate) fn read(&mut self, text: &'t [u8]) -> Result<Option<M>, AllocError>
-        ensures { IfOk result (IsReadAs M.may_stand M.text_of text.now) }
+        ensures { IfOk result (IsReadAs M.is_valid M.text_of text.now) }
     {
         let slot = slot_of(text);
         if let Some(member) = self.known_in(slot, text)? {
@@ -104,7 +104,7 @@ impl<'t, M: Member> Members<'t, M> {
     /// Returns the member of a text, if the text was read before and its slot still has it.
     pub(crate) fn known(&self, text: &[u8]) -> Result<Option<M>, AllocError>
         ensures { IfOk result
-            (λ o. MatchOption o (Unit {0}) (λ m. M.may_stand m × (text.now ≡ M.text_of m))) }
+            (λ o. MatchOption o (Unit {0}) (λ m. M.is_valid m × (text.now ≡ M.text_of m))) }
     {
         self.known_in(slot_of(text), text)
     }
@@ -112,7 +112,7 @@ impl<'t, M: Member> Members<'t, M> {
     /// Returns the member in a slot if the text is its text.
     fn known_in(&self, slot: usize, text: &[u8]) -> Result<Option<M>, AllocError>
         ensures { IfOk result
-            (λ o. MatchOption o (Unit {0}) (λ m. M.may_stand m × (text.now ≡ M.text_of m))) }
+            (λ o. MatchOption o (Unit {0}) (λ m. M.is_valid m × (text.now ≡ M.text_of m))) }
     {
         match self.known.get(slot) {
             Some(Some(known)) => known.of(text),
@@ -122,7 +122,7 @@ impl<'t, M: Member> Members<'t, M> {
 
     /// Stores a member and its text in a slot.
     fn keep(&mut self, slot: usize, text: &'t [u8], member: &M) -> Result<(), AllocError>
-        requires stands { M.may_stand member.now }
+        requires valid { M.is_valid member.now }
         requires written { text.now ≡ M.text_of member.now }
     {
         let member = member.share()?;

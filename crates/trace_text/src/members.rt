@@ -8,7 +8,7 @@ use jvms_program::key::{FieldKey, MethodKey};
 use std::alloc::{AllocError, Global};
 
 impl Member for FieldKey {
-    ghost may_stand = { IsFieldKey };
+    ghost is_valid = { IsFieldKey };
 
     ghost text_of = { field_text };
 
@@ -26,7 +26,7 @@ impl Member for FieldKey {
 }
 
 impl Member for MethodKey {
-    ghost may_stand = { IsMethodKey };
+    ghost is_valid = { IsMethodKey };
 
     ghost text_of = { method_text };
 

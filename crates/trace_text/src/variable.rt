@@ -23,7 +23,7 @@ const CLOSE: u8 = b']';
 fn put_element(out: &mut String, reference: u32, index: u32) -> Result<(), AllocError>
     ensures exact { OnOk result (string_bytes out.new
         ≡ string_bytes out.old ++ variable_text (Variable.Element reference index)) }
-    ensures behind { OnErr result (StartsWith (string_bytes out.new) (string_bytes out.old)) }
+    ensures appended { OnErr result (StartsWith (string_bytes out.new) (string_bytes out.old)) }
 {
     put_number(out, reference)?;
     out.push_str("[")?;
@@ -35,7 +35,7 @@ fn put_element(out: &mut String, reference: u32, index: u32) -> Result<(), Alloc
 pub(crate) fn put_variable(out: &mut String, variable: &Variable) -> Result<(), AllocError>
     ensures exact { OnOk result
         (string_bytes out.new ≡ string_bytes out.old ++ variable_text variable.now) }
-    ensures behind { OnErr result (StartsWith (string_bytes out.new) (string_bytes out.old)) }
+    ensures appended { OnErr result (StartsWith (string_bytes out.new) (string_bytes out.old)) }
 {
     match variable {
         Variable::Instance { reference, field } => {

@@ -14,7 +14,7 @@ use trace::Trace;
 fn put_parts(out: &mut String, item: &Item) -> Result<(), AllocError>
     ensures exact { OnOk result
         (string_bytes out.new ≡ string_bytes out.old ++ item_line item.now) }
-    ensures behind { OnErr result (StartsWith (string_bytes out.new) (string_bytes out.old)) }
+    ensures appended { OnErr result (StartsWith (string_bytes out.new) (string_bytes out.old)) }
 {
     put_item(out, item)?;
     out.push_str("\n")

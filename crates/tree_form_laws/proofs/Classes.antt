@@ -7,7 +7,7 @@ use Rattle.jvms_file.specs.declared.class_file.FieldInfo.{FieldInfo}
 use Rattle.jvms_file.specs.declared.class_file.MethodInfo.{MethodInfo}
 use Rattle.jvms_file.specs.declared.class_file.ClassFile.{ClassFile}
 use Rattle.jvms_file.specs.Names.{is_class_name}
-use Rattle.jvms_file.specs.Results.{collected}
+use Rattle.jvms_file.specs.Results.{results_of}
 use Rattle.jvms_file.specs.Members.{is_interface, is_same_field, is_same_method}
 use Rattle.jvms_file.specs.ClassFile.{is_proper_class}
 use Rattle.jvms_file.specs.Spelling.{SpellsField, SpellsInterface, SpellsMethod, Spells}
@@ -34,21 +34,21 @@ tree_with c fields methods =
 
 -- A tree is made of its fields and methods.
 pub tree_made : {G : Type 0} (c : ClassFile) (tree : Source) → tree_of c ≡ Ok tree
-    → ((fields : List FieldLine) (methods : List MethodLines) → not (c.super_class == 0) ≡ true → collected (field_line c.pool) c.fields ≡ Ok fields → collected (method_lines c.pool) c.methods ≡ Ok methods → tree_with c fields methods ≡ tree → G) → G
+    → ((fields : List FieldLine) (methods : List MethodLines) → not (c.super_class == 0) ≡ true → results_of (field_line c.pool) c.fields ≡ Ok fields → results_of (method_lines c.pool) c.methods ≡ Ok methods → tree_with c fields methods ≡ tree → G) → G
 unfolding tree_of
 tree_made c tree e next =
     want_step (not (c.super_class == 0)) fault.Name _ tree e λ extends more.
-    step (collected (field_line c.pool) c.fields) _ tree more λ fields fields_are more2.
-    step (collected (method_lines c.pool) c.methods) _ tree more2 λ methods methods_are last.
+    step (results_of (field_line c.pool) c.fields) _ tree more λ fields fields_are more2.
+    step (results_of (method_lines c.pool) c.methods) _ tree more2 λ methods methods_are last.
     next fields methods extends fields_are methods_are (same_Ok (tree_with c fields methods) tree last)
 
-fields_zip : (bytes : List ℕ) (c : ClassFile) (fields : List FieldLine) → Spells bytes c → collected (field_line c.pool) c.fields ≡ Ok fields → AllZip (IsFieldOf c.pool) c.fields fields
+fields_zip : (bytes : List ℕ) (c : ClassFile) (fields : List FieldLine) → Spells bytes c → results_of (field_line c.pool) c.fields ≡ Ok fields → AllZip (IsFieldOf c.pool) c.fields fields
 fields_zip bytes c fields spelled e =
     let are = sound_of spelled.pool c.pool spelled.of_pool in
     collected_zip (SpellsField c.pool) (field_line c.pool) (IsFieldOf c.pool) (λ first f line is made. field_formed c.pool are first f line is made)
     spelled.of_fields.1.1 c.fields fields spelled.of_fields.1.4 e
 
-methods_zip : (bytes : List ℕ) (c : ClassFile) (methods : List MethodLines) → Spells bytes c → collected (method_lines c.pool) c.methods ≡ Ok methods → AllZip (IsMethodOf c.pool (is_interface c.access)) c.methods methods
+methods_zip : (bytes : List ℕ) (c : ClassFile) (methods : List MethodLines) → Spells bytes c → results_of (method_lines c.pool) c.methods ≡ Ok methods → AllZip (IsMethodOf c.pool (is_interface c.access)) c.methods methods
 methods_zip bytes c methods spelled e =
     let are = sound_of spelled.pool c.pool spelled.of_pool in
     collected_zip (SpellsMethod c.pool c.major c.access) (method_lines c.pool) (IsMethodOf c.pool (is_interface c.access)) (λ first m lines is made. method_formed c.pool are c.major c.access first m lines is made)
@@ -61,7 +61,7 @@ interfaces_named bytes c spelled =
     spelled.of_interfaces.1.1 c.interfaces spelled.of_interfaces.1.4
 
 with_formed : (bytes : List ℕ) (c : ClassFile) (fields : List FieldLine) (methods : List MethodLines) → Spells bytes c → not (c.super_class == 0) ≡ true
-    → collected (field_line c.pool) c.fields ≡ Ok fields → collected (method_lines c.pool) c.methods ≡ Ok methods → IsFormed (tree_with c fields methods)
+    → results_of (field_line c.pool) c.fields ≡ Ok fields → results_of (method_lines c.pool) c.methods ≡ Ok methods → IsFormed (tree_with c fields methods)
 with_formed bytes c fields methods spelled extends fields_are methods_are =
     let are = sound_of spelled.pool c.pool spelled.of_pool in
     let names = spelled.of_names in

@@ -16,7 +16,7 @@ use Rattle.jvms_file.specs.declared.class_file.ClassFile.{ClassFile}
 use Rattle.jvms_file.specs.Names.{is_method_name, is_initializer_name}
 use Rattle.jvms_file.specs.ConstantPool.{entry}
 use Rattle.jvms_file.specs.Members.{is_code, is_initializer, needs_code}
-use Rattle.jvms_file.specs.Results.{collected}
+use Rattle.jvms_file.specs.Results.{results_of}
 use Rattle.jvms_file.specs.Spelling.{SpellsField, SpellsMethod, Spells}
 use Rattle.jvms_program.specs.Meaning.{text_of, code_of}
 use Rattle.jasmin.specs.declared.source.FieldConstant.{FieldConstant}
@@ -106,7 +106,7 @@ method_listable pool are major class_access bytes m lines spelled e =
 -- ---- The tree
 
 with_listable : (bytes : List ℕ) (c : ClassFile) (fields : List FieldLine) (methods : List MethodLines) → Spells bytes c
-    → collected (field_line c.pool) c.fields ≡ Ok fields → collected (method_lines c.pool) c.methods ≡ Ok methods → IsListable (tree_with c fields methods)
+    → results_of (field_line c.pool) c.fields ≡ Ok fields → results_of (method_lines c.pool) c.methods ≡ Ok methods → IsListable (tree_with c fields methods)
 with_listable bytes c fields methods spelled fields_are methods_are =
     let are = sound_of spelled.pool c.pool spelled.of_pool in
     let is_field : FieldInfo → FieldLine → Type 0 = λ f line. IsListableField line in

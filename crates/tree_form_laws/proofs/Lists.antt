@@ -1,7 +1,7 @@
 -- Proves properties of lists made of elements that bytes spell.
 use Rattle.std.proofs.Common.{◌≡◌, ℕ, Bool, List, [], ◌∷◌, ◌++◌, map, Result, Ok, refl, sym, ◌∙◌, subst}
 use Rattle.std.specs.List.{AllByRecursion, AllZip, list_any}
-use Rattle.jvms_file.specs.Results.{collected}
+use Rattle.jvms_file.specs.Results.{results_of}
 use Rattle.jvms_file.specs.Spelling.{InOrder, IsDistinctBy}
 use Rattle.classfile_laws.proofs.Steps.{step}
 use Rattle.tree_form_laws.proofs.Steps.{same_Ok}
@@ -55,9 +55,9 @@ distinct_as R same like agree (x ∷ xs) [] are distinct = absurd are
 
 -- The collected results of elements that bytes spell are related to the elements.
 pub collected_zip : {A B E : Type 0} (P : List ℕ → A → Type 0) (f : A → Result B E) (R : A → B → Type 0) → ((bytes : List ℕ) (x : A) (y : B) → P bytes x → f x ≡ Ok y → R x y)
-    → (bytes : List ℕ) (xs : List A) (ys : List B) → InOrder P bytes xs → collected f xs ≡ Ok ys → AllZip R xs ys
+    → (bytes : List ℕ) (xs : List A) (ys : List B) → InOrder P bytes xs → results_of f xs ≡ Ok ys → AllZip R xs ys
 collected_zip {B = B} P f R each bytes [] ys are e = subst (λ (zs : List B). AllZip R [] zs) (same_Ok {A = List B} [] ys e) tt
 collected_zip {B = B} P f R each bytes (x ∷ xs) ys are e =
     step (f x) _ ys e λ y first more.
-    step (collected f xs) _ ys more λ zs others last.
+    step (results_of f xs) _ ys more λ zs others last.
     subst (λ (l : List B). AllZip R (x ∷ xs) l) (same_Ok {A = List B} (y ∷ zs) ys last) (each are.0 x y are.3 first, collected_zip P f R each are.1 xs zs are.4 others)

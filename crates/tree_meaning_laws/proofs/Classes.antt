@@ -4,7 +4,7 @@ use Rattle.std.specs.List.{AllByRecursion}
 use Rattle.jvms_file.specs.declared.class_file.Constant.{Constant}
 use Rattle.jvms_file.specs.declared.class_file.MethodInfo.{MethodInfo}
 use Rattle.jvms_file.specs.declared.class_file.ClassFile.{ClassFile}
-use Rattle.jvms_file.specs.Results.{collected}
+use Rattle.jvms_file.specs.Results.{results_of}
 use Rattle.jvms_file.specs.Members.{is_interface}
 use Rattle.jvms_file.specs.Spelling.{Counted, SpellsMethod, Spells}
 use Rattle.jvms_program.specs.declared.program.ClassKind.{ClassKind}
@@ -59,8 +59,8 @@ pub tree_means : (bytes : List ℕ) (c : ClassFile) (tree : Source) → Spells b
 unfolding tree_of
 tree_means bytes c tree spelt gives =
     want_step (not (c.super_class == 0)) fault.Name _ _ gives λ above e.
-    step (collected (field_line c.pool) c.fields) _ _ e λ fields fielded e1.
-    step (collected (method_lines c.pool) c.methods) _ _ e1 λ methods methoded last.
+    step (results_of (field_line c.pool) c.fields) _ _ e λ fields fielded e1.
+    step (results_of (method_lines c.pool) c.methods) _ _ e1 λ methods methoded last.
     let written = methods_written c.pool c.major c.access spelt.methods c.methods spelt.of_methods in
     ap denote (sym (same_Ok (tree_with c fields methods) tree last))
     ∙ tree_is c fields methods (no_object (c.super_class == 0) above)

@@ -1,7 +1,7 @@
 -- Proves properties of lists whose elements mean others.
 use Rattle.std.proofs.Common.{◌≡◌, ℕ, Bool, true, false, ◌||◌, List, [], ◌∷◌, map, Result, Ok, refl, sym, ap, ◌∙◌}
 use Rattle.std.specs.List.{list_any, AllByRecursion}
-use Rattle.jvms_file.specs.Results.{collected}
+use Rattle.jvms_file.specs.Results.{results_of}
 use Rattle.jvms_file.specs.Spelling.{InOrder}
 use Rattle.classfile_laws.proofs.Steps.{step}
 
@@ -15,11 +15,11 @@ same_lists x y xs ys first rest = ap (λ z. z ∷ xs) first ∙ ap (λ zs. y ∷
 
 -- The collected results of a list mean what the list means, if each result does.
 pub collected_means : {A B C E : Type 0} (f : A → Result B E) (denoted : B → C) (means : A → C) (P : A → Type 0) → ((x : A) (y : B) → P x → f x ≡ Ok y → denoted y ≡ means x)
-    → (xs : List A) (ys : List B) → AllByRecursion P xs → collected f xs ≡ Ok ys → map denoted ys ≡ map means xs
+    → (xs : List A) (ys : List B) → AllByRecursion P xs → results_of f xs ≡ Ok ys → map denoted ys ≡ map means xs
 collected_means f denoted means P each [] ys all gives = ap (map denoted) (sym (same_Ok [] ys gives))
 collected_means f denoted means P each (x ∷ xs) ys all gives =
     step (f x) _ _ gives λ y is e.
-    step (collected f xs) _ _ e λ others are last.
+    step (results_of f xs) _ _ e λ others are last.
     ap (map denoted) (sym (same_Ok (y ∷ others) ys last))
     ∙ same_lists (denoted y) (means x) (map denoted others) (map means xs) (each x y all.0 is) (collected_means f denoted means P each xs others all.1 are)
 

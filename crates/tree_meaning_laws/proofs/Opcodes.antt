@@ -22,7 +22,7 @@ use Rattle.jvms_file.specs.declared.insn.ArrayInsn.TheVariants as array_insn
 use Rattle.jvms_file.specs.declared.insn.ArrayType.{ArrayType}
 use Rattle.jvms_file.specs.declared.insn.TableSwitch.{TableSwitch}
 use Rattle.jvms_file.specs.declared.insn.LookupSwitch.{LookupSwitch}
-use Rattle.jvms_file.specs.Instructions.{invoked, is_invocable}
+use Rattle.jvms_file.specs.Instructions.{invoked_names, is_invocable}
 use Rattle.jvms_file.specs.Spelling.{u2, IsOpcode}
 use Rattle.classfile_laws.proofs.InsnForms.{Behind, alone, push_byte, push_short, load, load_wide, load_long, local, increment, wide_local, wide_increment, new_array, branch, branch_wide, table, lookup, field, invoke, class, multi_new_array, Formed}
 use Rattle.listing_spec.specs.TreeOf.{opcode_at}
@@ -101,7 +101,7 @@ pub data Fits (pool : List Constant) : Opcode → Insn → Type 0 where
   is_table : {s : TableSwitch} → Fits pool opcode.TableSwitch (insn.Table s)
   is_lookup : {s : LookupSwitch} → Fits pool opcode.LookupSwitch (insn.Lookup s)
   is_field : {how : FieldUse} {n : ℕ} → Fits pool (opcode.Field how) (insn.Field how n)
-  is_invoke : {how : Invoke} {n : ℕ} → IsTrue (is_invocable how (invoked pool how n)) → Fits pool (opcode.Invoke how) (insn.Invoke how n)
+  is_invoke : {how : Invoke} {n : ℕ} → IsTrue (is_invocable how (invoked_names pool how n)) → Fits pool (opcode.Invoke how) (insn.Invoke how n)
   is_class : {how : ClassUse} {n : ℕ} → Fits pool (opcode.Class how) (insn.Class how n)
   is_arrays : {n count : ℕ} → Fits pool opcode.MultiNewArray (insn.MultiNewArray n count)
 

@@ -7,7 +7,7 @@ use Rattle.jvms_file.specs.declared.insn.ArrayKind.{ArrayKind}
 use Rattle.jvms_program.specs.declared.program.Class.{Class}
 use Rattle.jvms_program.specs.declared.thrown.Thrown.TheVariants as thrown
 use Rattle.jvms_machine.specs.Activations.{has_depth}
-use Rattle.jvms_machine.specs.Arrays.{element_at, element_size, fits_component, if_deep, is_reference_kind, kind_of_elements, load_from, load_operands, loaded, serves, store_below, store_operands, store_to, stored}
+use Rattle.jvms_machine.specs.Arrays.{element_at, element_size, fits_component, if_deep, is_reference_kind, kind_of_elements, load_from, load_operands, element_load_decision, serves, store_below, store_operands, store_to, element_store_decision}
 use Rattle.jvms_machine.specs.Decisions.{TurnDecision, bad}
 use Rattle.jvms_machine.specs.Fields.{taking}
 use Rattle.jvms_machine.specs.Heap.{component_type, stored_as}
@@ -36,7 +36,7 @@ module _ (program : List Class) (limits : Limits) (s : State) (t : ℕ) (thread 
 
   -- ---- Loads
 
-  loaded_has : (r : ℕ) (n : ℤ) (o : Option Value) → item.Read t (variable.Element r (unsigned_abs n)) ∷ [] ≡ accesses → P (loaded limits s thread frame r n o)
+  loaded_has : (r : ℕ) (n : ℤ) (o : Option Value) → item.Read t (variable.Element r (unsigned_abs n)) ∷ [] ≡ accesses → P (element_load_decision limits s thread frame r n o)
   loaded_has r n None is = array_tests.thrown_by thrown.ArrayIndexOutOfBoundsException
   loaded_has r n (Some v) is =
       cond_both (has_depth frame.body 2 (value_size v) frame.activation) _ _ P
@@ -58,7 +58,7 @@ module _ (program : List Class) (limits : Limits) (s : State) (t : ℕ) (thread 
 
   -- ---- Stores
 
-  stored_has : (k : ArrayKind) (v : Value) (n : ℤ) (r : ℕ) (class : List ℕ) (o : Option Value) → item.Write t (variable.Element r (unsigned_abs n)) ∷ [] ≡ accesses → P (stored program limits s thread frame.activation k v n r class o)
+  stored_has : (k : ArrayKind) (v : Value) (n : ℤ) (r : ℕ) (class : List ℕ) (o : Option Value) → item.Write t (variable.Element r (unsigned_abs n)) ∷ [] ≡ accesses → P (element_store_decision program limits s thread frame.activation k v n r class o)
   stored_has k v n r class None is = array_tests.thrown_by thrown.ArrayIndexOutOfBoundsException
   stored_has k v n r class (Some old) is =
       cond_both (is_reference_kind k && not (fits_component program s class v)) _ _ P

@@ -40,6 +40,6 @@ IsNext frame act = (applied act frame.activation).place ≡ frame.activation.pla
 -- A property of tests, of calls, of waits, and of instructions that continue, with these joins and accesses.
 pub record IsOfCalls (program : List Class) (limits : Limits) (s : State) (t : ℕ) (thread : Thread) (frame : MethodFrame) (joins accesses : List Item) (P : TurnDecision → Type 0) : Type 0 where
   pub of_tests : IsOfTests limits s thread P
-  pub calls : (n : MethodNumber) (body : Body) (takes : ℕ) (locked : Lock) → P (decision.Makes (action.Calls n body takes locked))
-  pub waits : (w : Wait) → P (decision.Makes (action.Waits w))
+  pub calls : (n : MethodNumber) (body : Body) (takes : ℕ) (locked : Lock) → P (decision.Applies (action.Calls n body takes locked))
+  pub waits : (w : Wait) → P (decision.Applies (action.Waits w))
   pub reached : (what : Effect (List ℕ)) (act : FrameAction) → IsNext frame act → (AreKnown program limits s → filter is_join (effect_items program t what) ≡ joins) → filter is_access (effect_items program t what) ≡ accesses → P (reaches what act)

@@ -11,7 +11,7 @@ use Rattle.jvms_program.specs.declared.thrown.Thrown.{Thrown}
 use Rattle.jvms_program.specs.declared.thrown.Thrown.TheVariants as thrown
 use Rattle.jvms_machine.specs.Activations.{has_depth}
 use Rattle.jvms_machine.specs.Arrays.{if_deep, with_int, with_object_of}
-use Rattle.jvms_machine.specs.Calls.{called_decision, enter_decision, numbered, with_body}
+use Rattle.jvms_machine.specs.Calls.{called_decision, enter_decision, with_method, with_body}
 use Rattle.jvms_machine.specs.Decisions.{TurnDecision}
 use Rattle.jvms_machine.specs.Exceptions.{has_room_for, throws}
 use Rattle.jvms_machine.specs.Heap.{class_name_at, next_reference}
@@ -36,9 +36,9 @@ use Rattle.jvms_machine.specs.declared.value.Value.TheVariants as value
 
 -- A property of turns that aren't taken, of those that throw, and of those that begin an initialisation.
 pub record IsOfTests (limits : Limits) (s : State) (thread : Thread) (P : TurnDecision → Type 0) : Type 0 where
-  pub unmade : (o : Outcome) → P (decision.Unmade o)
+  pub unmade : (o : Outcome) → P (decision.Stays o)
   pub thrown_by : (class : Thrown) → P (throws limits s thread class)
-  pub begun_by : (class : ℕ) → P (decision.Makes (action.Begins class))
+  pub begun_by : (class : ℕ) → P (decision.Applies (action.Begins class))
 
 module _ (program : List Class) (limits : Limits) (s : State) (t : ℕ) (thread : Thread) (P : TurnDecision → Type 0) (tests : IsOfTests limits s thread P) where
   -- ---- Initialisation
@@ -50,16 +50,16 @@ module _ (program : List Class) (limits : Limits) (s : State) (t : ℕ) (thread 
       (λ _. tests.thrown_by thrown.OutOfMemoryError)
       (λ _. cond_both (nat_le limits.frames (length thread.frames)) _ _ P (λ _. tests.thrown_by thrown.StackOverflowError) (λ _. tests.begun_by class))
 
-  asking_at_has : (class : ℕ) (o : Option Initialisation) (go_on : TurnDecision) → P go_on → P (requiring_class_in program limits s t thread class o go_on)
-  asking_at_has class None go_on has = tests.unmade (outcome.Bad cause.OutOfProfile)
-  asking_at_has class (Some initialisation.NotBegun) go_on has = begin_has class (slice_get program class)
-  asking_at_has class (Some (initialisation.InProgress u)) go_on has =
-      cond_both (u == t) go_on _ P (λ _. has) (λ _. tests.unmade (outcome.Blocked (blocked.Initialisation class u)))
-  asking_at_has class (Some initialisation.Done) go_on has = has
-  asking_at_has class (Some initialisation.Erroneous) go_on has = tests.thrown_by thrown.NoClassDefFoundError
+  asking_at_has : (class : ℕ) (o : Option Initialisation) (continued : TurnDecision) → P continued → P (requiring_class_in program limits s t thread class o continued)
+  asking_at_has class None continued has = tests.unmade (outcome.Bad cause.OutOfProfile)
+  asking_at_has class (Some initialisation.NotBegun) continued has = begin_has class (slice_get program class)
+  asking_at_has class (Some (initialisation.InProgress u)) continued has =
+      cond_both (u == t) continued _ P (λ _. has) (λ _. tests.unmade (outcome.Blocked (blocked.Initialisation class u)))
+  asking_at_has class (Some initialisation.Done) continued has = has
+  asking_at_has class (Some initialisation.Erroneous) continued has = tests.thrown_by thrown.NoClassDefFoundError
 
-  pub asking_has : (class : ℕ) (go_on : TurnDecision) → P go_on → P (asking program limits s t thread class go_on)
-  asking_has class go_on has = asking_at_has class (slice_get s.initialisations class) go_on has
+  pub asking_has : (class : ℕ) (continued : TurnDecision) → P continued → P (asking program limits s t thread class continued)
+  asking_has class continued has = asking_at_has class (slice_get s.initialisations class) continued has
 
   -- ---- Monitors
 
@@ -110,11 +110,11 @@ module _ (program : List Class) (limits : Limits) (s : State) (t : ℕ) (thread 
       native_has
       (λ _. with_body_has m.body (λ body. enter_decision program limits s t thread n m receiver arguments body (make body)) (λ body. enter_has n m receiver arguments body (make body) (has body))))
 
-  numbered_by : (n : MethodNumber) (o : Option Method) (make : MethodNumber → Method → TurnDecision) → o ≡ method_at program n → ((m : Method) → method_at program n ≡ Some m → P (make n m)) → P (numbered program (Some n) make)
+  numbered_by : (n : MethodNumber) (o : Option Method) (make : MethodNumber → Method → TurnDecision) → o ≡ method_at program n → ((m : Method) → method_at program n ≡ Some m → P (make n m)) → P (with_method program (Some n) make)
   numbered_by n None make e has = rw (← e) (tests.unmade (outcome.Bad cause.OutOfProfile))
   numbered_by n (Some m) make e has = rw (← e) (has m (sym e))
 
-  pub numbered_has : (o : Option MethodNumber) (make : MethodNumber → Method → TurnDecision) → ((n : MethodNumber) (m : Method) → o ≡ Some n → method_at program n ≡ Some m → P (make n m)) → P (numbered program o make)
+  pub numbered_has : (o : Option MethodNumber) (make : MethodNumber → Method → TurnDecision) → ((n : MethodNumber) (m : Method) → o ≡ Some n → method_at program n ≡ Some m → P (make n m)) → P (with_method program o make)
   numbered_has None make has = tests.unmade (outcome.Bad cause.OutOfProfile)
   numbered_has (Some n) make has = numbered_by n (method_at program n) make refl (λ m m_is. has n m refl m_is)
 

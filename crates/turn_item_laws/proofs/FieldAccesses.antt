@@ -19,7 +19,7 @@ use Rattle.jvms_program.specs.declared.thrown.Thrown.TheVariants as thrown
 use Rattle.jvms_machine.specs.Actions.{effect_items, event, field_variable}
 use Rattle.jvms_machine.specs.Activations.{has_depth}
 use Rattle.jvms_machine.specs.Decisions.{TurnDecision, never_seen}
-use Rattle.jvms_machine.specs.Fields.{are_of_field, field_decision, field_gives, field_takes, fields_of, found_field_decision, instance_decision, numbered_field_decision, object_decision, object_of_use, read, receiver_decision, resolved_field_decision, static_decision, taking, write_decision}
+use Rattle.jvms_machine.specs.Fields.{are_of_field, field_decision, field_gives, field_takes, fields_of, found_field_decision, instance_decision, numbered_field_decision, object_decision, object_of_use, read_decision, receiver_decision, resolved_field_decision, static_decision, taking, write_decision}
 use Rattle.jvms_machine.specs.Heap.{stored_as, value_of}
 use Rattle.jvms_machine.specs.Places.{kind_of_type, top_value, value_size}
 use Rattle.jvms_machine.specs.State.{MethodFrame, Object, State, Thread, class_of, object_at}
@@ -68,7 +68,7 @@ module _ (program : List Class) (limits : Limits) (s : State) (t : ℕ) (thread 
   field_unmade = field_tests.unmade (outcome.Bad cause.OutOfProfile)
 
   -- A read or a write that succeeds.
-  reads : (what : Effect (List ℕ)) (takes : ℕ) (o : Option Value) → filter is_join (effect_items program t what) ≡ [] → filter is_access (effect_items program t what) ≡ accesses → P (read frame what takes o)
+  reads : (what : Effect (List ℕ)) (takes : ℕ) (o : Option Value) → filter is_join (effect_items program t what) ≡ [] → filter is_access (effect_items program t what) ≡ accesses → P (read_decision frame what takes o)
   reads what takes None quiet is = field_unmade
   reads what takes (Some v) quiet is =
       cond_both (has_depth frame.body takes (value_size v) frame.activation) _ _ P

@@ -22,7 +22,7 @@ use Rattle.jvms_program.specs.declared.program.Loadable.TheVariants as loadable
 use Rattle.jvms_program.specs.declared.program.Method.{Method}
 use Rattle.jvms_program.specs.declared.thrown.Thrown.TheVariants as thrown
 use Rattle.jvms_machine.specs.Actions.{effect_items}
-use Rattle.jvms_machine.specs.Arrays.{array_length_decision, counted_lengths, if_deep, is_int, is_negative, length_decision, lengths_in, making, measured, new_array_decision, new_arrays_decision, new_arrays_room, new_class_array_decision}
+use Rattle.jvms_machine.specs.Arrays.{array_length_decision, counted_lengths, if_deep, is_int, is_negative, length_decision, lengths_in, making, object_length_decision, new_array_decision, new_arrays_decision, new_arrays_room, new_class_array_decision}
 use Rattle.jvms_machine.specs.Calls.{entry_decision, first_call, first_call_decision, run_decision, run_of_class, run_of_object, selected_run}
 use Rattle.jvms_machine.specs.Decisions.{TurnDecision}
 use Rattle.jvms_machine.specs.Exceptions.{has_room_for}
@@ -61,16 +61,16 @@ use Rattle.turn_item_laws.proofs.SilentItems.{AreSilent, acquires_are_silent, no
 pub record IsOfActions (program : List Class) (limits : Limits) (s : State) (t : ℕ) (thread : Thread) (P : TurnDecision → Type 0) : Type 0 where
   pub of_tests : IsOfTests limits s thread P
   pub reached : (what : Effect (List ℕ)) (act : FrameAction) → AreSilent (effect_items program t what) → P (reaches what act)
-  pub threw : (r : ℕ) → P (decision.Makes (action.Throws r))
+  pub threw : (r : ℕ) → P (decision.Applies (action.Throws r))
 
 -- A property of each way of popping the frame on top of these, and of a handler that takes an exception.
 pub record IsOfPops (limits : Limits) (s : State) (frames : List Frame) (P : TurnDecision → Type 0) : Type 0 where
-  pub unmade : (o : Outcome) → P (decision.Unmade o)
-  pub catches : (r target : ℕ) → P (decision.Makes (action.Catches r target))
+  pub unmade : (o : Outcome) → P (decision.Stays o)
+  pub catches : (r target : ℕ) → P (decision.Applies (action.Catches r target))
   pub returned : (f : MethodFrame) (below : List Frame) (result : Option Value) (unlock : Option MonitorUse) → frames ≡ stack_frame.Call f ∷ below → P (returns_to f.method below result unlock)
-  pub unwinds : (f : MethodFrame) (below : List Frame) (unlock : Option MonitorUse) → frames ≡ stack_frame.Call f ∷ below → P (decision.Makes (action.Unwinds f.method (is_empty below) unlock))
+  pub unwinds : (f : MethodFrame) (below : List Frame) (unlock : Option MonitorUse) → frames ≡ stack_frame.Call f ∷ below → P (decision.Applies (action.Unwinds f.method (is_empty below) unlock))
   pub fails : (f : MethodFrame) (below : List Frame) → frames ≡ stack_frame.Call f ∷ below → P (fails_to_unlock limits s f.method below)
-  pub fails_initialisation : (class : ℕ) (called : Bool) (e : Exception) (below : List Frame) → frames ≡ stack_frame.Initialisation class called ∷ below → P (decision.Makes (action.FailsInitialisation class e (is_empty below)))
+  pub fails_initialisation : (class : ℕ) (called : Bool) (e : Exception) (below : List Frame) → frames ≡ stack_frame.Initialisation class called ∷ below → P (decision.Applies (action.FailsInitialisation class e (is_empty below)))
 
 -- ---- Frames that are popped
 
@@ -108,7 +108,7 @@ module _ (program : List Class) (limits : Limits) (s : State) (t : ℕ) (frames 
 
     handler_has : (r : ℕ) (o : Option ExceptionHandler) → P (handler_decision limits s t f below r o)
     handler_has r None =
-        unlocking_has f.monitor (fails_to_unlock limits s f.method below) (λ unlock. decision.Makes (action.Unwinds f.method (is_empty below) unlock)) (pops.fails f below is) (λ unlock. pops.unwinds f below unlock is)
+        unlocking_has f.monitor (fails_to_unlock limits s f.method below) (λ unlock. decision.Applies (action.Unwinds f.method (is_empty below) unlock)) (pops.fails f below is) (λ unlock. pops.unwinds f below unlock is)
     handler_has r (Some h) = cond_both (f.body.max_stack == 0) _ _ P (λ _. pops.unmade _) (λ _. pops.catches r h.target)
 
   top_has : (fs : List Frame) (r : ℕ) (o : Object) → frames ≡ fs → P (top_decision program limits s t fs r o)
@@ -137,7 +137,7 @@ module _ (program : List Class) (limits : Limits) (s : State) (t : ℕ) (thread 
   nothing_has act = leaves.reached effect.Nothing act none_is_silent
 
   making_has : (takes : ℕ) (what : NewObject (List ℕ)) → P (making s takes what)
-  making_has takes what = leaves.reached (effect.Makes what) _ none_is_silent
+  making_has takes what = leaves.reached (effect.Creates what) _ none_is_silent
 
   throwable_has : (r : ℕ) (o : Object) → P (throwable_decision program r o)
   throwable_has r o = cond_both (fits program (class_of o) (codes "java/lang/Throwable")) _ _ P (λ _. leaves.threw r) (λ _. tests.unmade _)
@@ -210,7 +210,7 @@ module _ (program : List Class) (limits : Limits) (s : State) (t : ℕ) (thread 
       (λ _. tests.thrown_by thrown.NegativeArraySizeException)
       (λ _. new_arrays_room_has class dimensions (counted_lengths dimensions frame.activation.operands)))))
 
-  measured_has : (r : ℕ) (o : Object) → P (measured r o)
+  measured_has : (r : ℕ) (o : Object) → P (object_length_decision r o)
   measured_has r (array class elements) = nothing_has _
   measured_has r (instance class fields) = tests.unmade _
   measured_has r (text units) = tests.unmade _
@@ -218,7 +218,7 @@ module _ (program : List Class) (limits : Limits) (s : State) (t : ℕ) (thread 
 
   pub array_length_has : (operands : List Value) → P (array_length_decision limits s thread operands)
   array_length_has [] = tests.unmade _
-  array_length_has (v ∷ others) = with_object_has program limits s t thread P tests v measured (λ r o _. measured_has r o)
+  array_length_has (v ∷ others) = with_object_has program limits s t thread P tests v object_length_decision (λ r o _. measured_has r o)
 
   pub length_of_array_has : (frame : MethodFrame) → P (if_deep frame 1 1 (array_length_decision limits s thread frame.activation.operands))
   length_of_array_has frame = deep frame 1 1 _ (array_length_has frame.activation.operands)
@@ -276,10 +276,10 @@ module _ (program : List Class) (limits : Limits) (s : State) (t : ℕ) (thread 
   -- ---- First calls and initialisations
 
   -- A first call that is applied has the property.
-  module _ (enters : (n : MethodNumber) (body : Body) (locked : Lock) → P (decision.Makes (action.Enters n body locked))) where
+  module _ (enters : (n : MethodNumber) (body : Body) (locked : Lock) → P (decision.Applies (action.Enters n body locked))) where
     first_has : (receiver : Option ℕ) (count : ℕ) (n : MethodNumber) (m : Method) → P (first_call program limits s t thread receiver count n m)
     first_has receiver count n m =
-        called_has program limits s t thread P tests n m receiver count _ (λ body locked. decision.Makes (action.Enters n body locked)) (λ _. tests.thrown_by thrown.UnsatisfiedLinkError) (enters n)
+        called_has program limits s t thread P tests n m receiver count _ (λ body locked. decision.Applies (action.Enters n body locked)) (λ _. tests.thrown_by thrown.UnsatisfiedLinkError) (enters n)
 
     entry_decision_has : (start : Start) (o : Option Method) → P (entry_decision program limits start s t thread o)
     entry_decision_has start None = tests.unmade _
@@ -306,7 +306,7 @@ module _ (program : List Class) (limits : Limits) (s : State) (t : ℕ) (thread 
         cond_both (t == 0) _ _ P (λ _. entry_decision_has start (method_at program start.method)) (λ _. run_has thread.object)
 
   -- An initialisation that calls its `<clinit>` or finishes has the property.
-  module _ (initialises : (n : MethodNumber) (body : Body) → P (decision.Makes (action.Initialises n body))) (finishes : (class : ℕ) → P (decision.Makes (action.Finishes class))) where
+  module _ (initialises : (n : MethodNumber) (body : Body) → P (decision.Applies (action.Initialises n body))) (finishes : (class : ℕ) → P (decision.Applies (action.Finishes class))) where
     initializer_call_has : (n : MethodNumber) (o : Option Body) → P (initializer_call limits s thread n o)
     initializer_call_has n None = tests.unmade _
     initializer_call_has n (Some body) =
@@ -316,9 +316,9 @@ module _ (program : List Class) (limits : Limits) (s : State) (t : ℕ) (thread 
     initializer_has c class None = finishes class
     initializer_has c class (Some n) = initializer_call_has _ _
 
-    superclass_has : (o : Option ℕ) (go_on : TurnDecision) → P go_on → P (superclass_decision program limits s t thread o go_on)
-    superclass_has None go_on holds = holds
-    superclass_has (Some super) go_on holds = asking_has program limits s t thread P tests super go_on holds
+    superclass_has : (o : Option ℕ) (continued : TurnDecision) → P continued → P (superclass_decision program limits s t thread o continued)
+    superclass_has None continued holds = holds
+    superclass_has (Some super) continued holds = asking_has program limits s t thread P tests super continued holds
 
     pub initialisation_has : (class : ℕ) (called : Bool) (o : Option Class) → P (initialisation_decision program limits s t thread class called o)
     initialisation_has class called None = tests.unmade _

@@ -89,7 +89,7 @@ module _ (program : List Class) (t : ℕ) where
   effect_in_parts (effect.PutStatic n v) = event_in_parts (λ v. item.Write t v) (λ v. refl) (static_variable program n)
   effect_in_parts (effect.LoadElement r i) = refl
   effect_in_parts (effect.StoreElement r i v) = refl
-  effect_in_parts (effect.Makes what) = refl
+  effect_in_parts (effect.Creates what) = refl
   effect_in_parts (effect.Prints what ends_line) = refl
   effect_in_parts (effect.Locks monitor) = acquires_in_parts t monitor
   effect_in_parts (effect.Unlocks monitor) = releases_in_parts t monitor
@@ -119,8 +119,8 @@ module _ (program : List Class) (t : ℕ) where
   action_in_parts (action.Fails e) = refl
 
   pub decision_in_parts : (d : TurnDecision) → AreInParts (items_after program t d)
-  decision_in_parts (decision.Makes act) = action_in_parts act
-  decision_in_parts (decision.Unmade o) = refl
+  decision_in_parts (decision.Applies act) = action_in_parts act
+  decision_in_parts (decision.Stays o) = refl
 
 -- The items of a turn are its releases, marks, acquires, forks, joins and accesses, in this order.
 pub turn_in_parts : (program : List Class) (limits : Limits) (start : Start) (s : State) (t : ℕ) → AreInParts (turn program limits start s t).items

@@ -19,7 +19,7 @@ use Rattle.jvms_program.specs.declared.thrown.Thrown.{Thrown}
 use Rattle.jvms_program.specs.declared.thrown.Thrown.TheVariants as thrown
 use Rattle.jvms_machine.specs.Actions.{effect_items}
 use Rattle.jvms_machine.specs.Activations.{has_depth}
-use Rattle.jvms_machine.specs.Calls.{are_of_call, call_decision, invoke_decision, object_call_decision, receiver_call_decision, receiver_of, resolved_call_decision, selected, selected_decision, static_call_decision, taken, wrong_receiver}
+use Rattle.jvms_machine.specs.Calls.{are_of_call, call_decision, invoke_decision, object_call_decision, receiver_call_decision, receiver_of, resolved_call_decision, selected_method, selected_decision, static_call_decision, slots_of_call, wrong_receiver}
 use Rattle.jvms_machine.specs.Decisions.{TurnDecision, never_seen}
 use Rattle.jvms_machine.specs.Fields.{reaches, taking}
 use Rattle.jvms_machine.specs.Natives.{native_of_class, object_printed, print_decision, prints, value_printed}
@@ -27,7 +27,7 @@ use Rattle.jvms_machine.specs.Places.{whole_top}
 use Rattle.jvms_machine.specs.State.{Frame, MethodFrame, Object, State, Thread, array, class_object, class_of, instance, monitor_at, object_at, result_length, text}
 use Rattle.jvms_machine.specs.Steps.{instruction_at}
 use Rattle.jvms_machine.specs.Threads.{join_decision, start_decision, thread_native_decision, thread_of}
-use Rattle.jvms_machine.specs.Waiting.{object_native_decision, owned, waits_or_notifies}
+use Rattle.jvms_machine.specs.Waiting.{object_native_decision, owner_decision, waits_or_notifies}
 use Rattle.jvms_machine.specs.declared.action.Action.TheVariants as action
 use Rattle.jvms_machine.specs.declared.action.Decision.TheVariants as decision
 use Rattle.jvms_machine.specs.declared.action.Effect.{Effect}
@@ -94,7 +94,7 @@ module _ (program : List Class) (limits : Limits) (s : State) (t : ℕ) (thread 
   -- ---- The methods of Object
 
   -- Only the owner of the monitor may call them.
-  owned_has : (o : Option Hold) (make : ℕ → TurnDecision) → ((count : ℕ) → P (make count)) → P (owned limits s t thread o make)
+  owned_has : (o : Option Hold) (make : ℕ → TurnDecision) → ((count : ℕ) → P (make count)) → P (owner_decision limits s t thread o make)
   owned_has None make has = call_tests.thrown_by thrown.IllegalMonitorStateException
   owned_has (Some h) make has =
       cond_both (h.owner == t) _ _ P (λ _. has h.count) (λ _. call_tests.thrown_by thrown.IllegalMonitorStateException)
@@ -166,7 +166,7 @@ module _ (program : List Class) (limits : Limits) (s : State) (t : ℕ) (thread 
 
   call_has : (receiver : Option ℕ) (takes : ℕ) (n : MethodNumber) (m : Method) → (m.flags.is_native ≡ true → (c : Class) → slice_get program n.class ≡ Some c → AreJoinsOf m c) → P (call_decision program limits s t thread frame.activation receiver takes n m)
   call_has receiver takes n m of_class =
-      called_has program limits s t thread P call_tests n m receiver takes _ (λ body locked. decision.Makes (action.Calls n body takes locked))
+      called_has program limits s t thread P call_tests n m receiver takes _ (λ body locked. decision.Applies (action.Calls n body takes locked))
       (λ native. native_has takes m (slice_get program n.class) (of_class native))
       (λ body locked. leaves.calls n body takes locked)
 
@@ -193,11 +193,11 @@ module _ (program : List Class) (limits : Limits) (s : State) (t : ℕ) (thread 
               absurd (cc);
         }
 
-    static_has : (found : ResolvedMethod) → IsFound program r.descriptor found → found.method.flags.is_static ≡ true → joins ≡ [] → P (static_call_decision program limits s t thread frame.activation (taken how r.method_type) found)
+    static_has : (found : ResolvedMethod) → IsFound program r.descriptor found → found.method.flags.is_static ≡ true → joins ≡ [] → P (static_call_decision program limits s t thread frame.activation (slots_of_call how r.method_type) found)
     static_has found is static none =
         numbered_has program limits s t thread P call_tests (method_number program found) _
         (λ n m number m_is. asking_has program limits s t thread P call_tests n.class _
-        (call_has None (taken how r.method_type) n m (λ native c c_is. static_joins found n m c is static none number c_is)))
+        (call_has None (slots_of_call how r.method_type) n m (λ native c c_is. static_joins found n m c is static none number c_is)))
 
     -- A call that isn't static, with the method selected for its receiver.
     module _ (q : ℕ) (receiver_is : receiver_of r.method_type frame.activation.operands ≡ Some (value.Reference q)) where
@@ -229,11 +229,11 @@ module _ (program : List Class) (limits : Limits) (s : State) (t : ℕ) (thread 
                 told true its_join ∙ ap (λ (k : ℕ). join_items t (ended_thread_of s.threads k)) (sym (top_is_receiver p others none operands));
           }
 
-      selected_has : (o : Option ResolvedMethod) → ((f : ResolvedMethod) → o ≡ Some f → IsFound program r.descriptor f) → joins ≡ join_items t (joined_by s.threads q o) → P (selected_decision program limits s t thread frame.activation q (taken how r.method_type) o)
+      selected_has : (o : Option ResolvedMethod) → ((f : ResolvedMethod) → o ≡ Some f → IsFound program r.descriptor f) → joins ≡ join_items t (joined_by s.threads q o) → P (selected_decision program limits s t thread frame.activation q (slots_of_call how r.method_type) o)
       selected_has None is joins_are = call_tests.thrown_by thrown.AbstractMethodError
       selected_has (Some found) is joins_are =
           numbered_has program limits s t thread P call_tests (method_number program found) _
-          (λ n m number m_is. call_has (Some q) (taken how r.method_type) n m (λ native c c_is. selected_joins found n m c (is found refl) joins_are number m_is native c_is))
+          (λ n m number m_is. call_has (Some q) (slots_of_call how r.method_type) n m (λ native c c_is. selected_joins found n m c (is found refl) joins_are number m_is native c_is))
 
       wrong_receiver_has : (kind : Invoke) → P (wrong_receiver limits s thread kind)
       wrong_receiver_has invoke.Interface = call_tests.thrown_by thrown.IncompatibleClassChangeError
@@ -243,7 +243,7 @@ module _ (program : List Class) (limits : Limits) (s : State) (t : ℕ) (thread 
       object_has found None is resolved joins_are = call_unmade
       object_has found (Some o) is resolved joins_are =
           cond_both (fits program (class_of o) found.class.name) _ _ P
-          (λ _. selected_has (selected program frame how r (class_of o) found) (λ f f_is. selected_is_found program frame how r (class_of o) r.descriptor found f is f_is)
+          (λ _. selected_has (selected_method program frame how r (class_of o) found) (λ f f_is. selected_is_found program frame how r (class_of o) r.descriptor found f is f_is)
           (joins_are ∙ ap (λ res. join_items t (joined_by s.threads q (selected_for program frame how r o res))) resolved))
           (λ _. wrong_receiver_has how)
 
@@ -267,7 +267,7 @@ module _ (program : List Class) (limits : Limits) (s : State) (t : ℕ) (thread 
     pub invoke_has : joins ≡ join_items t (joined_for program s frame how r (receiver_reference how r frame.activation.operands)) → P (invoke_decision program limits s t thread frame how r)
     unfolding invoke_decision
     invoke_has joins_are =
-        cond_both (not (has_depth frame.body (taken how r.method_type) (result_length r.method_type.result) frame.activation)) _ _ P
+        cond_both (not (has_depth frame.body (slots_of_call how r.method_type) (result_length r.method_type.result) frame.activation)) _ _ P
         (λ _. call_tests.unmade (outcome.Bad cause.Depth))
         (λ _. cond_both (not (are_of_call how r.method_type frame.activation.operands)) _ _ P
         (λ _. call_tests.unmade (outcome.Bad cause.Kind))

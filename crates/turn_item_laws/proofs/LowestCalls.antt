@@ -5,8 +5,8 @@ use Rattle.std.proofs.lemmas.Bool.Decides.{eqb_tells}
 use Rattle.std.proofs.lemmas.Option.{none-some, same_Some}
 use Rattle.jvms_program.specs.declared.program.Class.{Class}
 use Rattle.jvms_program.specs.declared.thrown.Thrown.{Thrown}
-use Rattle.jvms_machine.specs.Actions.{affected, applied_to, arguments_of, begun, stack_after_return, calling, caught, changed_to, ended, failed, first_arguments, first_called, thread_after_action, initialising, initializer_called, operands_of, popped, put_to_wait, raised, returned, after_throw, stack_without_operands, stack_after_action, top_handling, unwound, waited, with_changed, with_class_constants, with_exception, with_lock, with_result, with_retaken, with_unlock, with_waiter}
-use Rattle.jvms_machine.specs.Calls.{entered}
+use Rattle.jvms_machine.specs.Actions.{affected, applied_to, arguments_of, with_initialisation_frame, stack_after_return, calling, caught, changed_to, after_end, after_failure, first_arguments, first_called, thread_after_action, initialising, initializer_called, operands_of, without_top, put_to_wait, with_pending, after_return, after_throw, stack_without_operands, stack_after_action, top_handling, unwound, after_wait, with_changed, with_class_constants, with_exception, with_lock, with_result, with_retaken, with_unlock, with_waiter}
+use Rattle.jvms_machine.specs.Calls.{frame_of_call}
 use Rattle.jvms_machine.specs.Decisions.{TurnAction, TurnDecision}
 use Rattle.jvms_machine.specs.Exceptions.{exception_of, exception_reference, raising, throws}
 use Rattle.jvms_machine.specs.Monitors.{is_empty, locked_reference}
@@ -53,8 +53,8 @@ IsMadeOf frames (action.Finishes class) = IsInitialisation frames
 IsMadeOf frames _ = Unit {0}
 
 abbrev IsOf : List Frame → TurnDecision → Type 0
-IsOf frames (decision.Makes act) = IsMadeOf frames act
-IsOf frames (decision.Unmade o) = Unit {0}
+IsOf frames (decision.Applies act) = IsMadeOf frames act
+IsOf frames (decision.Stays o) = Unit {0}
 
 has_below : (frames below : List Frame) (f : Frame) → frames ≡ f ∷ below → is_empty below ≡ false → HasBelow frames
 has_below frames [] f is some = absurd (cc)
@@ -187,23 +187,23 @@ module _ (program : List Class) (limits : Limits) (start : Start) (s : State) (t
       (λ made lives. lives_on (stack_after_action act thread.frames) (gone_on_ends act thread.frames) made)
   action_has (action.Begins class) of =
       let f = stack_frame.Initialisation class false in
-      own_has (with_class_constants s (slice_get program class)) (begun class) (constants_threads s (slice_get program class))
+      own_has (with_class_constants s (slice_get program class)) (with_initialisation_frame class) (constants_threads s (slice_get program class))
       (λ made lives. lives_on (f ∷ thread.frames) (begun_ends f thread.frames) made)
   action_has (action.Finishes class) of =
-      own_has s popped (grown_not s.threads) (λ made lives. lives_on (drop 1 thread.frames) (finished_ends thread.frames of) made)
+      own_has s without_top (grown_not s.threads) (λ made lives. lives_on (drop 1 thread.frames) (finished_ends thread.frames of) made)
   action_has (action.Enters method body locked) of =
-      own_has (with_lock program s t locked) (first_called start method body locked) (locked_threads program s t locked) (λ made lives. entered_ends (entered method body (locked_reference locked) (first_arguments start thread)) of)
+      own_has (with_lock program s t locked) (first_called start method body locked) (locked_threads program s t locked) (λ made lives. entered_ends (frame_of_call method body (locked_reference locked) (first_arguments start thread)) of)
   action_has (action.Ends method result unlock) of =
-      own_result (with_changed (with_unlock s unlock) t ended) result (own_has (with_unlock s unlock) ended (unlocked_threads s unlock) (ended_has (ended thread) refl))
+      own_result (with_changed (with_unlock s unlock) t after_end) result (own_has (with_unlock s unlock) after_end (unlocked_threads s unlock) (ended_has (after_end thread) refl))
   action_has (action.Calls method body takes locked) of =
-      let callee = entered method body (locked_reference locked) (arguments_of takes (slice_get s.threads t)) in
+      let callee = frame_of_call method body (locked_reference locked) (arguments_of takes (slice_get s.threads t)) in
       own_has (with_lock program s t locked) (calling callee takes) (locked_threads program s t locked)
       (λ made lives. lives_on (stack_frame.Call callee ∷ stack_without_operands takes thread.frames) (λ is. begun_ends (stack_frame.Call callee) (stack_without_operands takes thread.frames) (given_ends takes thread.frames is)) made)
   action_has (action.Returns method result unlock) of =
-      own_has (with_unlock s unlock) (returned result) (unlocked_threads s unlock)
+      own_has (with_unlock s unlock) (after_return result) (unlocked_threads s unlock)
       (λ made lives. lives_on (stack_after_return result (drop 1 thread.frames)) (λ is. returned_ends result (drop 1 thread.frames) (popped_ends thread.frames of is)) made)
   action_has (action.Initialises method body) of =
-      let callee = entered method body None [] in
+      let callee = frame_of_call method body None [] in
       own_has s (initialising callee) (grown_not s.threads)
       (λ made lives. lives_on (stack_frame.Call callee ∷ initializer_called thread.frames) (λ is. begun_ends (stack_frame.Call callee) (initializer_called thread.frames) (initialising_ends thread.frames is)) made)
   action_has (action.Throws r) of =
@@ -213,23 +213,23 @@ module _ (program : List Class) (limits : Limits) (start : Start) (s : State) (t
   action_has (action.Unwinds method last unlock) of =
       own_has (with_unlock s unlock) (unwound last) (unlocked_threads s unlock) (unwound_has thread last refl refl of)
   action_has (action.FailsToUnlock method e last) of =
-      own_has (with_exception program s e) (λ v. unwound last (raised (exception_reference s e) v)) (exception_threads program s e)
-      (unwound_has (raised (exception_reference s e) thread) last refl refl of)
+      own_has (with_exception program s e) (λ v. unwound last (with_pending (exception_reference s e) v)) (exception_threads program s e)
+      (unwound_has (with_pending (exception_reference s e) thread) last refl refl of)
   action_has (action.FailsInitialisation class e last) of =
-      own_has (with_exception program s e) (λ v. unwound last (raised (exception_reference s e) v)) (exception_threads program s e)
-      (unwound_has (raised (exception_reference s e) thread) last refl refl of)
+      own_has (with_exception program s e) (λ v. unwound last (with_pending (exception_reference s e) v)) (exception_threads program s e)
+      (unwound_has (with_pending (exception_reference s e) thread) last refl refl of)
   action_has (action.Waits w) of =
       own_has (with_waiter s t w.reference) (put_to_wait w) (grown_not s.threads) (λ made lives. lives_on (stack_without_operands 1 thread.frames) (given_ends 1 thread.frames) made)
   action_has (action.Retakes w) of =
-      own_has (with_retaken s t w) waited (grown_not s.threads) (λ made lives. lives_on (stack_after_return None thread.frames) (returned_ends None thread.frames) made)
+      own_has (with_retaken s t w) after_wait (grown_not s.threads) (λ made lives. lives_on (stack_after_return None thread.frames) (returned_ends None thread.frames) made)
   action_has (action.Raises e) of =
-      own_has (with_exception program s e) (raised (exception_reference s e)) (exception_threads program s e) (λ made lives. lives_on thread.frames (λ is. is) made)
+      own_has (with_exception program s e) (with_pending (exception_reference s e)) (exception_threads program s e) (λ made lives. lives_on thread.frames (λ is. is) made)
   action_has (action.Fails e) of =
-      own_has (with_exception program s e) (failed (exception_reference s e)) (exception_threads program s e) (ended_has (failed (exception_reference s e) thread) refl)
+      own_has (with_exception program s e) (after_failure (exception_reference s e)) (exception_threads program s e) (ended_has (after_failure (exception_reference s e) thread) refl)
 
   decision_has : (d : TurnDecision) → IsOf thread.frames d → HasOwn (state_after program start s t d)
-  decision_has (decision.Makes act) of = action_has act of
-  decision_has (decision.Unmade o) of = λ v at. subst HasLowestCall (same_Some thread v (sym there ∙ at)) has
+  decision_has (decision.Applies act) of = action_has act of
+  decision_has (decision.Stays o) of = λ v at. subst HasLowestCall (same_Some thread v (sym there ∙ at)) has
 
 -- ---- Turns
 

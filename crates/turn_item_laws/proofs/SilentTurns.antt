@@ -32,7 +32,7 @@ module _ (program : List Class) (limits : Limits) (s : State) (t : ℕ) where
   abbrev pub IsSilent : TurnDecision → Type 0
   IsSilent d = AreSilent (items_after program t d)
 
-  pub unmade_is_silent : (o : Outcome) → IsSilent (decision.Unmade o)
+  pub unmade_is_silent : (o : Outcome) → IsSilent (decision.Stays o)
   unmade_is_silent o = none_is_silent
 
   pub raising_is_silent : (frames : List Frame) (e : Exception) → IsSilent (raising frames e)
@@ -44,11 +44,11 @@ module _ (program : List Class) (limits : Limits) (s : State) (t : ℕ) where
   unfolding throws
   throws_is_silent thread class = raising_is_silent thread.frames (exception_of limits s class)
 
-  pub begins_is_silent : (class : ℕ) → IsSilent (decision.Makes (action.Begins class))
+  pub begins_is_silent : (class : ℕ) → IsSilent (decision.Applies (action.Begins class))
   unfolding items_of
   begins_is_silent class = none_is_silent
 
-  pub goes_is_silent : (act : FrameAction) → IsSilent (decision.Makes (action.Goes act))
+  pub goes_is_silent : (act : FrameAction) → IsSilent (decision.Applies (action.Goes act))
   unfolding items_of
   goes_is_silent act = none_is_silent
 
@@ -56,39 +56,39 @@ module _ (program : List Class) (limits : Limits) (s : State) (t : ℕ) where
   unfolding items_of
   reaches_is_silent what act silent = silent
 
-  pub calls_is_silent : (n : MethodNumber) (body : Body) (takes : ℕ) (locked : Lock) → IsSilent (decision.Makes (action.Calls n body takes locked))
+  pub calls_is_silent : (n : MethodNumber) (body : Body) (takes : ℕ) (locked : Lock) → IsSilent (decision.Applies (action.Calls n body takes locked))
   unfolding items_of
   calls_is_silent n body takes locked = entry_is_silent t (key_of program n) (lock_items t locked) (lock_is_silent t locked)
 
-  pub enters_is_silent : (n : MethodNumber) (body : Body) (locked : Lock) → IsSilent (decision.Makes (action.Enters n body locked))
+  pub enters_is_silent : (n : MethodNumber) (body : Body) (locked : Lock) → IsSilent (decision.Applies (action.Enters n body locked))
   unfolding items_of
   enters_is_silent n body locked = entry_is_silent t (key_of program n) (lock_items t locked) (lock_is_silent t locked)
 
-  pub finishes_is_silent : (class : ℕ) → IsSilent (decision.Makes (action.Finishes class))
+  pub finishes_is_silent : (class : ℕ) → IsSilent (decision.Applies (action.Finishes class))
   unfolding items_of
   finishes_is_silent class = none_is_silent
 
-  pub initialises_is_silent : (n : MethodNumber) (body : Body) → IsSilent (decision.Makes (action.Initialises n body))
+  pub initialises_is_silent : (n : MethodNumber) (body : Body) → IsSilent (decision.Applies (action.Initialises n body))
   unfolding items_of
   initialises_is_silent n body = subst AreSilent (append-nil (enter_items program t n)) (entry_is_silent t (key_of program n) [] none_is_silent)
 
-  pub throwing_is_silent : (r : ℕ) → IsSilent (decision.Makes (action.Throws r))
+  pub throwing_is_silent : (r : ℕ) → IsSilent (decision.Applies (action.Throws r))
   unfolding items_of
   throwing_is_silent r = none_is_silent
 
-  pub waits_is_silent : (w : Wait) → IsSilent (decision.Makes (action.Waits w))
+  pub waits_is_silent : (w : Wait) → IsSilent (decision.Applies (action.Waits w))
   unfolding items_of
   waits_is_silent w = record { joins = refl; accesses = refl }
 
-  pub retakes_is_silent : (w : Wait) → IsSilent (decision.Makes (action.Retakes w))
+  pub retakes_is_silent : (w : Wait) → IsSilent (decision.Applies (action.Retakes w))
   unfolding items_of
   retakes_is_silent w = record { joins = refl; accesses = refl }
 
-  pub catches_is_silent : (r target : ℕ) → IsSilent (decision.Makes (action.Catches r target))
+  pub catches_is_silent : (r target : ℕ) → IsSilent (decision.Applies (action.Catches r target))
   unfolding items_of
   catches_is_silent r target = none_is_silent
 
-  pub fails_initialisation_is_silent : (class : ℕ) (e : Exception) (last : Bool) → IsSilent (decision.Makes (action.FailsInitialisation class e last))
+  pub fails_initialisation_is_silent : (class : ℕ) (e : Exception) (last : Bool) → IsSilent (decision.Applies (action.FailsInitialisation class e last))
   unfolding items_of
   fails_initialisation_is_silent class e last = none_is_silent
 
@@ -101,6 +101,6 @@ module _ (program : List Class) (limits : Limits) (s : State) (t : ℕ) where
   returns_is_silent n [] result unlock = left_is_silent t unlock (exit_items program t n) (exit_is_silent t (key_of program n))
   returns_is_silent n (f ∷ below) result unlock = left_is_silent t unlock (exit_items program t n) (exit_is_silent t (key_of program n))
 
-  pub unwinds_is_silent : (n : MethodNumber) (last : Bool) (unlock : Option MonitorUse) → IsSilent (decision.Makes (action.Unwinds n last unlock))
+  pub unwinds_is_silent : (n : MethodNumber) (last : Bool) (unlock : Option MonitorUse) → IsSilent (decision.Applies (action.Unwinds n last unlock))
   unfolding items_of
   unwinds_is_silent n last unlock = left_is_silent t unlock (exit_items program t n) (exit_is_silent t (key_of program n))

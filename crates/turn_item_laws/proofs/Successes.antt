@@ -6,9 +6,9 @@ use Rattle.jvms_program.specs.declared.number.MethodNumber.{MethodNumber}
 use Rattle.jvms_program.specs.declared.program.Body.{Body}
 use Rattle.jvms_program.specs.declared.program.Class.{Class}
 use Rattle.jvms_program.specs.declared.thrown.Thrown.{Thrown}
-use Rattle.jvms_machine.specs.Actions.{affected, applied_to, arguments_of, begun, frame_after_action, calling, changed_to, effect_items, given, thread_after_action, items_of, operands_of, put_to_wait, raised, stack_without_operands, stack_after_action, with_changed, with_class_constants, with_exception, with_lock, with_waiter}
+use Rattle.jvms_machine.specs.Actions.{affected, applied_to, arguments_of, with_initialisation_frame, frame_after_action, calling, changed_to, effect_items, without_arguments, thread_after_action, items_of, operands_of, put_to_wait, with_pending, stack_without_operands, stack_after_action, with_changed, with_class_constants, with_exception, with_lock, with_waiter}
 use Rattle.jvms_machine.specs.Activations.{applied}
-use Rattle.jvms_machine.specs.Calls.{entered}
+use Rattle.jvms_machine.specs.Calls.{frame_of_call}
 use Rattle.jvms_machine.specs.Decisions.{TurnDecision}
 use Rattle.jvms_machine.specs.Exceptions.{exception_of, exception_reference, raising, throws}
 use Rattle.jvms_machine.specs.Fields.{reaches}
@@ -75,36 +75,36 @@ module _ (program : List Class) (limits : Limits) (start : Start) (s : State) (t
   not_further : is_further (Some frame) (Some frame) ≡ false
   not_further = ne_eqb frame.activation.place (frame.activation.place + 1) (λ same. absurd (omega arith))
 
-  unmade_stays : (o : Outcome) → gone (decision.Unmade o) ≡ false
+  unmade_stays : (o : Outcome) → gone (decision.Stays o) ≡ false
   unmade_stays o = further_to s (Some frame) top_is ∙ not_further
 
-  raises_stays : (e : Exception) → gone (decision.Makes (action.Raises e)) ≡ false
+  raises_stays : (e : Exception) → gone (decision.Applies (action.Raises e)) ≡ false
   unfolding applied_to
   raises_stays e =
       let made = with_exception program s e in
-      let change = raised (exception_reference s e) in
+      let change = with_pending (exception_reference s e) in
       further_to (with_changed made t change) (Some frame) (changed_top made change (exception_threads program s e) ∙ ap call_on top.frames_are) ∙ not_further
 
-  begins_stays : (class : ℕ) → gone (decision.Makes (action.Begins class)) ≡ false
+  begins_stays : (class : ℕ) → gone (decision.Applies (action.Begins class)) ≡ false
   unfolding applied_to
   begins_stays class =
       let made = with_class_constants s (slice_get program class) in
-      further_to (with_changed made t (begun class)) None (changed_top made (begun class) (constants_threads s (slice_get program class)))
+      further_to (with_changed made t (with_initialisation_frame class)) None (changed_top made (with_initialisation_frame class) (constants_threads s (slice_get program class)))
 
-  calls_stays : (n : MethodNumber) (body : Body) (takes : ℕ) (locked : Lock) → gone (decision.Makes (action.Calls n body takes locked)) ≡ false
+  calls_stays : (n : MethodNumber) (body : Body) (takes : ℕ) (locked : Lock) → gone (decision.Applies (action.Calls n body takes locked)) ≡ false
   unfolding applied_to
   calls_stays n body takes locked =
       let made = with_lock program s t locked in
-      let callee = entered n body (locked_reference locked) (arguments_of takes (slice_get s.threads t)) in
+      let callee = frame_of_call n body (locked_reference locked) (arguments_of takes (slice_get s.threads t)) in
       further_to (with_changed made t (calling callee takes)) (Some callee) (changed_top made (calling callee takes) (locked_threads program s t locked))
       ∙ ne_eqb 0 (frame.activation.place + 1) (λ same. absurd (omega arith))
 
   -- A call of `wait` returns only later.
-  waits_stays : (w : Wait) → gone (decision.Makes (action.Waits w)) ≡ false
+  waits_stays : (w : Wait) → gone (decision.Applies (action.Waits w)) ≡ false
   unfolding applied_to
   waits_stays w =
       let made = with_waiter s t w.reference in
-      further_to (with_changed made t (put_to_wait w)) (Some (given 1 frame))
+      further_to (with_changed made t (put_to_wait w)) (Some (without_arguments 1 frame))
       (changed_top made (put_to_wait w) (grown_not s.threads) ∙ ap (λ fs. call_on (stack_without_operands 1 fs)) top.frames_are)
       ∙ not_further
 
@@ -126,26 +126,26 @@ module _ (program : List Class) (limits : Limits) (start : Start) (s : State) (t
         accesses_are = silent.accesses ∙ sym (cond-false (gone d) accesses [] stays);
       }
 
-  pub unmade_is_told : (o : Outcome) → Told (decision.Unmade o)
-  unmade_is_told o = stays_is_told (decision.Unmade o) none_is_silent (unmade_stays o)
+  pub unmade_is_told : (o : Outcome) → Told (decision.Stays o)
+  unmade_is_told o = stays_is_told (decision.Stays o) none_is_silent (unmade_stays o)
 
   raising_by : (frames : List Frame) (e : Exception) → frames ≡ stack_frame.Call frame ∷ below → Told (raising frames e)
   raising_by [] e is = absurd (cc)
-  raising_by (f ∷ fs) e is = stays_is_told (decision.Makes (action.Raises e)) (raising_is_silent program limits s t (f ∷ fs) e) (raises_stays e)
+  raising_by (f ∷ fs) e is = stays_is_told (decision.Applies (action.Raises e)) (raising_is_silent program limits s t (f ∷ fs) e) (raises_stays e)
 
   throws_is_told : (class : Thrown) → Told (throws limits s thread class)
   unfolding throws
   throws_is_told class = raising_by thread.frames (exception_of limits s class) top.frames_are
 
-  begins_is_told : (class : ℕ) → Told (decision.Makes (action.Begins class))
-  begins_is_told class = stays_is_told (decision.Makes (action.Begins class)) (begins_is_silent program limits s t class) (begins_stays class)
+  begins_is_told : (class : ℕ) → Told (decision.Applies (action.Begins class))
+  begins_is_told class = stays_is_told (decision.Applies (action.Begins class)) (begins_is_silent program limits s t class) (begins_stays class)
 
-  calls_is_told : (n : MethodNumber) (body : Body) (takes : ℕ) (locked : Lock) → Told (decision.Makes (action.Calls n body takes locked))
+  calls_is_told : (n : MethodNumber) (body : Body) (takes : ℕ) (locked : Lock) → Told (decision.Applies (action.Calls n body takes locked))
   calls_is_told n body takes locked =
-      stays_is_told (decision.Makes (action.Calls n body takes locked)) (calls_is_silent program limits s t n body takes locked) (calls_stays n body takes locked)
+      stays_is_told (decision.Applies (action.Calls n body takes locked)) (calls_is_silent program limits s t n body takes locked) (calls_stays n body takes locked)
 
-  waits_is_told : (w : Wait) → Told (decision.Makes (action.Waits w))
-  waits_is_told w = stays_is_told (decision.Makes (action.Waits w)) (waits_is_silent program limits s t w) (waits_stays w)
+  waits_is_told : (w : Wait) → Told (decision.Applies (action.Waits w))
+  waits_is_told w = stays_is_told (decision.Applies (action.Waits w)) (waits_is_silent program limits s t w) (waits_stays w)
 
   -- The call continues, with the event of its instruction.
   reaches_is_told : (what : Effect (List ℕ)) (act : FrameAction) → IsNext frame act → (AreKnown program limits s → filter is_join (effect_items program t what) ≡ joins) → filter is_access (effect_items program t what) ≡ accesses → Told (reaches what act)

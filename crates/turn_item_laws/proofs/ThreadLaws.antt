@@ -6,7 +6,7 @@ use Rattle.std.proofs.lemmas.Option.{none-some, same_Some}
 use Rattle.jvms_program.specs.Program.{field_key_at}
 use Rattle.jvms_program.specs.declared.key.FieldKey.{FieldKey}
 use Rattle.jvms_program.specs.declared.program.Class.{Class}
-use Rattle.jvms_machine.specs.Actions.{affected, applied_to, changed_to, operands_of, put_field, put_static, put_to_wait, waited, with_changed, with_class_constants, with_exception, with_lock, with_result, with_retaken, with_unlock, with_waiter}
+use Rattle.jvms_machine.specs.Actions.{affected, applied_to, changed_to, operands_of, put_field, put_static, put_to_wait, after_wait, with_changed, with_class_constants, with_exception, with_lock, with_result, with_retaken, with_unlock, with_waiter}
 use Rattle.jvms_machine.specs.Decisions.{TurnAction, TurnDecision}
 use Rattle.jvms_machine.specs.Start.{Start}
 use Rattle.jvms_machine.specs.State.{State, Thread, new_thread}
@@ -80,7 +80,7 @@ constants_threads s (Some c) = grown_not s.threads
 
 pub exception_threads : (program : List Class) (s : State) (e : Exception) → AreThreadsGrown s.threads (with_exception program s e).threads
 exception_threads program s (exception.New class) = grown_not s.threads
-exception_threads program s (exception.Held r) = grown_not s.threads
+exception_threads program s (exception.Existing r) = grown_not s.threads
 
 field_threads : (s : State) (r : ℕ) (v : Value) (o : Option FieldKey) → AreThreadsGrown s.threads (put_field s r v o).threads
 field_threads s r v None = grown_not s.threads
@@ -98,7 +98,7 @@ affected_threads program s t operands (effect.GetStatic n) = grown_not s.threads
 affected_threads program s t operands (effect.PutStatic n v) = static_threads s v (field_key_at program n)
 affected_threads program s t operands (effect.LoadElement r i) = grown_not s.threads
 affected_threads program s t operands (effect.StoreElement r i v) = grown_not s.threads
-affected_threads program s t operands (effect.Makes what) = grown_not s.threads
+affected_threads program s t operands (effect.Creates what) = grown_not s.threads
 affected_threads program s t operands (effect.Prints what ends_line) = grown_not s.threads
 affected_threads program s t operands (effect.Locks monitor) = grown_not s.threads
 affected_threads program s t operands (effect.Unlocks monitor) = grown_not s.threads
@@ -155,13 +155,13 @@ module _ (program : List Class) (start : Start) (s : State) (t : ℕ) where
   action_keeps (action.FailsToUnlock method e last) = in_state (with_exception program s e) _ (exception_threads program s e)
   action_keeps (action.FailsInitialisation class e last) = in_state (with_exception program s e) _ (exception_threads program s e)
   action_keeps (action.Waits w) = in_state (with_waiter s t w.reference) (put_to_wait w) (grown_not s.threads)
-  action_keeps (action.Retakes w) = in_state (with_retaken s t w) waited (grown_not s.threads)
+  action_keeps (action.Retakes w) = in_state (with_retaken s t w) after_wait (grown_not s.threads)
   action_keeps (action.Raises e) = in_state (with_exception program s e) _ (exception_threads program s e)
   action_keeps (action.Fails e) = in_state (with_exception program s e) _ (exception_threads program s e)
 
   decision_keeps : (d : TurnDecision) → AreOthersKept t s.threads (state_after program start s t d).threads
-  decision_keeps (decision.Makes act) = action_keeps act
-  decision_keeps (decision.Unmade o) = record { same = λ u thread other there. there; new = λ u thread other none there. absurd (none-some thread (sym none ∙ there)) }
+  decision_keeps (decision.Applies act) = action_keeps act
+  decision_keeps (decision.Stays o) = record { same = λ u thread other there. there; new = λ u thread other none there. absurd (none-some thread (sym none ∙ there)) }
 
 -- ---- The object of the thread itself
 
@@ -201,13 +201,13 @@ module _ (program : List Class) (start : Start) (s : State) (t : ℕ) (thread : 
   action_keeps_object (action.FailsToUnlock method e last) = object_of_changed (with_exception program s e) _ (exception_threads program s e) refl
   action_keeps_object (action.FailsInitialisation class e last) = object_of_changed (with_exception program s e) _ (exception_threads program s e) refl
   action_keeps_object (action.Waits w) = object_of_changed (with_waiter s t w.reference) (put_to_wait w) (grown_not s.threads) refl
-  action_keeps_object (action.Retakes w) = object_of_changed (with_retaken s t w) waited (grown_not s.threads) refl
+  action_keeps_object (action.Retakes w) = object_of_changed (with_retaken s t w) after_wait (grown_not s.threads) refl
   action_keeps_object (action.Raises e) = object_of_changed (with_exception program s e) _ (exception_threads program s e) refl
   action_keeps_object (action.Fails e) = object_of_changed (with_exception program s e) _ (exception_threads program s e) refl
 
   decision_keeps_object : (d : TurnDecision) → KeepsObject (state_after program start s t d)
-  decision_keeps_object (decision.Makes act) = action_keeps_object act
-  decision_keeps_object (decision.Unmade o) = λ v at. sym (ap (λ (w : Thread). w.object) (same_Some thread v (sym there ∙ at)))
+  decision_keeps_object (decision.Applies act) = action_keeps_object act
+  decision_keeps_object (decision.Stays o) = λ v at. sym (ap (λ (w : Thread). w.object) (same_Some thread v (sym there ∙ at)))
 
 -- ---- Turns
 

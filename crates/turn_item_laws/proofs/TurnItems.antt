@@ -28,7 +28,7 @@ use Rattle.turn_item_laws.proofs.TurnWalks.{IsOfTurns, OfCall, given_out_has}
 use Rattle.turn_item_laws.specs.Accesses.{accesses_between, is_access}
 use Rattle.turn_item_laws.specs.Joins.{is_join, joins_between}
 use Rattle.turn_item_laws.specs.Progress.{next_call}
-use Rattle.turn_item_laws.specs.Telling.{items_between}
+use Rattle.turn_item_laws.specs.ItemsBetween.{items_between}
 
 module _ (program : List Class) (limits : Limits) (start : Start) (s : State) (t : ℕ) where
   -- A silent decision has no joins and no accesses.
@@ -39,24 +39,24 @@ module _ (program : List Class) (limits : Limits) (start : Start) (s : State) (t
   told_actions thread =
       record {
         of_tests = record {
-          unmade = λ o. silent (decision.Unmade o) (unmade_is_silent program limits s t o);
+          unmade = λ o. silent (decision.Stays o) (unmade_is_silent program limits s t o);
           thrown_by = λ class. silent (throws limits s thread class) (throws_is_silent program limits s t thread class);
-          begun_by = λ class. silent (decision.Makes (action.Begins class)) (begins_is_silent program limits s t class);
+          begun_by = λ class. silent (decision.Applies (action.Begins class)) (begins_is_silent program limits s t class);
         };
         reached = λ what act is. silent (reaches what act) (reaches_is_silent program limits s t what act is);
-        threw = λ r. silent (decision.Makes (action.Throws r)) (throwing_is_silent program limits s t r);
+        threw = λ r. silent (decision.Applies (action.Throws r)) (throwing_is_silent program limits s t r);
       }
 
   told_pops : (frames : List Frame) → IsOfPops limits s frames (HasItemsOf program limits start s t [] [])
   told_pops frames =
       record {
-        unmade = λ o. silent (decision.Unmade o) (unmade_is_silent program limits s t o);
-        catches = λ r target. silent (decision.Makes (action.Catches r target)) (catches_is_silent program limits s t r target);
+        unmade = λ o. silent (decision.Stays o) (unmade_is_silent program limits s t o);
+        catches = λ r target. silent (decision.Applies (action.Catches r target)) (catches_is_silent program limits s t r target);
         returned = λ f below result unlock is. silent (returns_to f.method below result unlock) (returns_is_silent program limits s t f.method below result unlock);
-        unwinds = λ f below unlock is. silent (decision.Makes (action.Unwinds f.method (is_empty below) unlock)) (unwinds_is_silent program limits s t f.method (is_empty below) unlock);
+        unwinds = λ f below unlock is. silent (decision.Applies (action.Unwinds f.method (is_empty below) unlock)) (unwinds_is_silent program limits s t f.method (is_empty below) unlock);
         fails = λ f below is. silent (fails_to_unlock limits s f.method below) (fails_is_silent program limits s t f.method below);
         fails_initialisation = λ class called e below is.
-            silent (decision.Makes (action.FailsInitialisation class e (is_empty below))) (fails_initialisation_is_silent program limits s t class e (is_empty below));
+            silent (decision.Applies (action.FailsInitialisation class e (is_empty below))) (fails_initialisation_is_silent program limits s t class e (is_empty below));
       }
 
   told_turns : (thread : Thread) → IsOfTurns program limits s t thread (HasItemsOf program limits start s t)
@@ -65,15 +65,15 @@ module _ (program : List Class) (limits : Limits) (start : Start) (s : State) (t
         calls = λ frame below joins accesses top. told_calls program limits start s t thread frame below top joins accesses;
         actions = told_actions thread;
         pops = told_pops thread.frames;
-        goes = λ act. silent (decision.Makes (action.Goes act)) (goes_is_silent program limits s t act);
-        enters = λ is n body locked. silent (decision.Makes (action.Enters n body locked)) (enters_is_silent program limits s t n body locked);
-        initialises = λ n body. silent (decision.Makes (action.Initialises n body)) (initialises_is_silent program limits s t n body);
-        finishes = λ c called below is class. silent (decision.Makes (action.Finishes class)) (finishes_is_silent program limits s t class);
-        retakes = λ w. silent (decision.Makes (action.Retakes w)) (retakes_is_silent program limits s t w);
+        goes = λ act. silent (decision.Applies (action.Goes act)) (goes_is_silent program limits s t act);
+        enters = λ is n body locked. silent (decision.Applies (action.Enters n body locked)) (enters_is_silent program limits s t n body locked);
+        initialises = λ n body. silent (decision.Applies (action.Initialises n body)) (initialises_is_silent program limits s t n body);
+        finishes = λ c called below is class. silent (decision.Applies (action.Finishes class)) (finishes_is_silent program limits s t class);
+        retakes = λ w. silent (decision.Applies (action.Retakes w)) (retakes_is_silent program limits s t w);
       }
 
   thread_told : (o : Option Thread) → slice_get s.threads t ≡ o → OfCall program limits start s t (HasItemsOf program limits start s t) (next_call o) (thread_decision program limits start s t o)
-  thread_told None is = silent (decision.Unmade outcome.NoThread) (unmade_is_silent program limits s t outcome.NoThread)
+  thread_told None is = silent (decision.Stays outcome.NoThread) (unmade_is_silent program limits s t outcome.NoThread)
   thread_told (Some thread) is = given_out_has program limits start s t (HasItemsOf program limits start s t) thread (told_turns thread) thread.ended thread.pending thread.waits is refl
 
   decide_told : OfCall program limits start s t (HasItemsOf program limits start s t) (next_call (slice_get s.threads t)) (decide program limits start s t)

@@ -55,11 +55,11 @@ pub record IsOfTurns (program : List Class) (limits : Limits) (s : State) (t : �
   pub calls : (frame : MethodFrame) (below : List Frame) (joins accesses : List Item) → IsOnTop s t thread frame below → IsOfCalls program limits s t thread frame joins accesses (P joins accesses)
   pub actions : IsOfActions program limits s t thread (P [] [])
   pub pops : IsOfPops limits s thread.frames (P [] [])
-  pub goes : (act : FrameAction) → P [] [] (decision.Makes (action.Goes act))
-  pub enters : thread.frames ≡ [] → (n : MethodNumber) (body : Body) (locked : Lock) → P [] [] (decision.Makes (action.Enters n body locked))
-  pub initialises : (n : MethodNumber) (body : Body) → P [] [] (decision.Makes (action.Initialises n body))
-  pub finishes : (c : ℕ) (called : Bool) (below : List Frame) → thread.frames ≡ stack_frame.Initialisation c called ∷ below → (class : ℕ) → P [] [] (decision.Makes (action.Finishes class))
-  pub retakes : (w : Wait) → P [] [] (decision.Makes (action.Retakes w))
+  pub goes : (act : FrameAction) → P [] [] (decision.Applies (action.Goes act))
+  pub enters : thread.frames ≡ [] → (n : MethodNumber) (body : Body) (locked : Lock) → P [] [] (decision.Applies (action.Enters n body locked))
+  pub initialises : (n : MethodNumber) (body : Body) → P [] [] (decision.Applies (action.Initialises n body))
+  pub finishes : (c : ℕ) (called : Bool) (below : List Frame) → thread.frames ≡ stack_frame.Initialisation c called ∷ below → (class : ℕ) → P [] [] (decision.Applies (action.Finishes class))
+  pub retakes : (w : Wait) → P [] [] (decision.Applies (action.Retakes w))
 
 module _ (program : List Class) (limits : Limits) (start : Start) (s : State) (t : ℕ) (P : List Item → List Item → TurnDecision → Type 0) where
   -- The property of a decision with the joins and accesses of an optional call.

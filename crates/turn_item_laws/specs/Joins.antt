@@ -10,7 +10,7 @@ use Rattle.jvms_program.specs.declared.program.Instruction.{Instruction}
 use Rattle.jvms_program.specs.declared.program.Instruction.TheVariants as instruction
 use Rattle.jvms_program.specs.declared.program.MethodReference.{MethodReference}
 use Rattle.jvms_program.specs.declared.thrown.Thrown.{Thrown}
-use Rattle.jvms_machine.specs.Calls.{receiver_of, selected}
+use Rattle.jvms_machine.specs.Calls.{receiver_of, selected_method}
 use Rattle.jvms_machine.specs.State.{MethodFrame, Object, State, Thread, class_of, object_at}
 use Rattle.jvms_machine.specs.Steps.{instruction_at}
 use Rattle.jvms_machine.specs.Threads.{thread_of}
@@ -37,7 +37,7 @@ receiver_reference how r operands =
 -- Returns the method that a call selects for an object, once its reference is resolved.
 abbrev pub selected_for : List Class → MethodFrame → Invoke → MethodReference → Object → Result ResolvedMethod Thrown → Option ResolvedMethod
 selected_for program f how r o (Err class) = None
-selected_for program f how r o (Ok found) = selected program f how r (class_of o) found
+selected_for program f how r o (Ok found) = selected_method program f how r (class_of o) found
 
 -- Decides whether a method is `join()V` of `Thread`.
 abbrev pub is_thread_join : ResolvedMethod → Bool

@@ -1,5 +1,5 @@
 pub mod Accesses
-pub mod LowestCalls
+pub mod ItemsBetween
 pub mod Joins
+pub mod LowestCalls
 pub mod Progress
-pub mod Telling

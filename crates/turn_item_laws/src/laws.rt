@@ -13,7 +13,7 @@ ghost use Rattle.jvms_program.specs.declared.program.Class.{Class};
 ghost use Rattle.turn_item_laws.specs.Accesses.{accesses_between, is_access};
 ghost use Rattle.turn_item_laws.specs.LowestCalls.{HaveLowestCalls};
 ghost use Rattle.turn_item_laws.specs.Joins.{is_join, joins_between};
-ghost use Rattle.turn_item_laws.specs.Telling.{items_between};
+ghost use Rattle.turn_item_laws.specs.ItemsBetween.{items_between};
 
 /// Proves that the states determine the joins among the items of a turn. A thread joins the thread of the object for
 /// which its call of `join` is, if that thread has ended and the call returns, and no other.

@@ -11,11 +11,11 @@ use Rattle.jvms_machine.specs.Unwinding.{failed_with}
 use Rattle.unwinding.specs.Replacing.{is_replaced}
 
 module _ (program : List Class) (limits : Limits) (s : State) (called : Bool) (r : ℕ) (o : Object) (class : List ℕ) (same : class ≡ class_of o) where
-  told : (b : Bool) → is_replaced program called class ≡ b → cond b (exception_of limits s thrown.ExceptionInInitializerError) (exception.Held r) ≡ failed_with program limits s called r o
-  told b is = ap (λ x. cond x (exception_of limits s thrown.ExceptionInInitializerError) (exception.Held r)) (sym is ∙ ap (is_replaced program called) same)
+  told : (b : Bool) → is_replaced program called class ≡ b → cond b (exception_of limits s thrown.ExceptionInInitializerError) (exception.Existing r) ≡ failed_with program limits s called r o
+  told b is = ap (λ x. cond x (exception_of limits s thrown.ExceptionInInitializerError) (exception.Existing r)) (sym is ∙ ap (is_replaced program called) same)
 
   pub failed_anew : (e : Exception) → is_replaced program called class ≡ true → e ≡ exception_of limits s thrown.ExceptionInInitializerError → e ≡ failed_with program limits s called r o
   failed_anew e replaced is = is ∙ told true replaced
 
-  pub failed_still : is_replaced program called class ≡ false → exception.Held r ≡ failed_with program limits s called r o
+  pub failed_still : is_replaced program called class ≡ false → exception.Existing r ≡ failed_with program limits s called r o
   failed_still replaced = told false replaced

@@ -6,7 +6,7 @@ ghost use Rattle.jvms_machine.specs.declared.value.Value.TheVariants as value;
 ghost use Rattle.jvms_machine.specs.Arrays.{with_object_of};
 ghost use Rattle.jvms_machine.specs.State.{Object, class_of};
 ghost use Rattle.jvms_machine.specs.Unwinding.{covers, takes_class, handles, handler_of, popped_decision, handler_decision, failed_with, top_decision, unwinding_decision, throwable_decision, throw_decision};
-ghost use Rattle.machine_parts.specs.Decided.{seen};
+ghost use Rattle.machine_parts.specs.Decided.{decision_value};
 ghost use Rattle.unwinding.specs.Replacing.{is_replaced};
 
 use frames::Frame;
@@ -77,12 +77,12 @@ fn popped_decision<'p>(
     thread: &Thread,
     frame: &Frame,
 ) -> Decided<'p>
-    ensures { seen result
+    ensures { decision_value result
         ≡ popped_decision parts.now.limits parts.now.state t frame.now (drop 1 thread.now.frames) }
 {
     match parts.unlocking(t, frame) {
         Unlocking::Fails => parts.fails_to_unlock(thread, frame),
-        Unlocking::Leaves(unlock) => Decision::Makes(Action::Unwinds {
+        Unlocking::Leaves(unlock) => Decision::Applies(Action::Unwinds {
             method: frame.method(),
             last: thread.height() <= 1,
             unlock,
@@ -100,7 +100,7 @@ fn handler_decision<'p>(
     reference: u32,
     class: &[u16],
 ) -> Decided<'p>
-    ensures { seen result ≡ handler_decision parts.now.limits parts.now.state t frame.now
+    ensures { decision_value result ≡ handler_decision parts.now.limits parts.now.state t frame.now
         (drop 1 thread.now.frames) reference (handler_of parts.now.program class.now frame.now) }
 {
     match handler_of(parts.program(), class, frame) {
@@ -109,7 +109,7 @@ fn handler_decision<'p>(
             if frame.body().max_stack == 0 {
                 return bad(BadCause::Depth);
             }
-            Decision::Makes(Action::Catches {
+            Decision::Applies(Action::Catches {
                 reference,
                 target: handler.target as usize,
             })
@@ -134,7 +134,7 @@ fn failed_with(parts: &Parts, called: bool, reference: u32, class: &[u16]) -> Ex
     if is_replaced(parts, called, class) {
         parts.exception_of(Thrown::ExceptionInInitializerError)
     } else {
-        Exception::Held { reference }
+        Exception::Existing { reference }
     }
 }
 
@@ -146,8 +146,9 @@ fn unwound_by_top<'p>(
     reference: u32,
     class: &[u16],
 ) -> Decided<'p>
-    ensures { (o : Object) → class.now ≡ class_of o → seen result ≡ top_decision parts.now.program
-        parts.now.limits parts.now.state t thread.now.frames reference o }
+    ensures { (o : Object) → class.now ≡ class_of o → decision_value result
+        ≡ top_decision parts.now.program parts.now.limits parts.now.state t thread.now.frames
+        reference o }
 {
     match thread.frame(0) {
         None => never_seen(),
@@ -160,7 +161,7 @@ fn unwound_by_top<'p>(
                 called,
             },
         ) => {
-            Decision::Makes(Action::FailsInitialisation {
+            Decision::Applies(Action::FailsInitialisation {
                 class: *number,
                 exception: failed_with(parts, *called, reference, class),
                 last: thread.height() <= 1,
@@ -177,7 +178,7 @@ pub fn unwinding_decision<'p>(
     thread: &Thread,
     reference: u32,
 ) -> Decided<'p>
-    ensures { seen result ≡ unwinding_decision parts.now.program
+    ensures { decision_value result ≡ unwinding_decision parts.now.program
         parts.now.limits parts.now.state t thread.now reference }
 {
     match parts.heap.class_of(reference) {
@@ -188,14 +189,14 @@ pub fn unwinding_decision<'p>(
 
 /// Decides the throw of the object of a reference. Stops with `Kind` if it is no Throwable.
 fn throwable_decision<'p>(parts: &Parts<'p>, thread: &Thread, reference: u32) -> Decided<'p>
-    ensures { seen result ≡ with_object_of parts.now.limits parts.now.state thread.now
+    ensures { decision_value result ≡ with_object_of parts.now.limits parts.now.state thread.now
         (value.Reference reference) (throwable_decision parts.now.program) }
 {
     match parts.heap.class_of(reference) {
         None => never_seen(),
         Some(class) => {
             if parts.program().fits(class, &THROWABLE) {
-                Decision::Makes(Action::Throws { reference })
+                Decision::Applies(Action::Throws { reference })
             } else {
                 bad(BadCause::Kind)
             }
@@ -206,7 +207,7 @@ fn throwable_decision<'p>(parts: &Parts<'p>, thread: &Thread, reference: u32) ->
 /// Decides JVMS 6.5 `athrow`. It tests the depth and null, then that the object is a Throwable.
 #[tactic(auto, unfolding(jvms_machine::specs::Unwinding::throw_decision))]
 pub fn throw_decision<'p>(parts: &Parts<'p>, thread: &Thread, frame: &Frame) -> Decided<'p>
-    ensures { seen result
+    ensures { decision_value result
         ≡ throw_decision parts.now.program parts.now.limits parts.now.state thread.now frame.now }
 {
     if !has_depth(frame, 1, 0) {

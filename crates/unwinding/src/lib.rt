@@ -2,8 +2,8 @@
 //! decided with nothing changed, and its action is then applied to the parts of a machine.
 #![tactic(auto)]
 
+mod applying;
 mod decisions;
-mod making;
 
+pub use applying::{catch, fail_initialisation, fail_to_unlock, throw_object, unwind};
 pub use decisions::{throw_decision, unwinding_decision};
-pub use making::{catch, fail_initialisation, fail_to_unlock, throw_object, unwind};

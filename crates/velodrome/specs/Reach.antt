@@ -6,7 +6,7 @@ use Rattle.velodrome.specs.Transactions.{Event, TraceState}
 
 -- A transaction is open while its atomic method is open.
 abbrev pub IsOpen : TraceState → ℕ → Type 0
-IsOpen w a = (thread : ℕ) × ((w.courses thread).transaction ≡ Some a)
+IsOpen w a = (thread : ℕ) × ((w.threads thread).transaction ≡ Some a)
 
 -- Edges lead from a through the listed transactions, in order, to b.
 abbrev pub IsPath : List Event → ℕ → List ℕ → ℕ → Type 0

@@ -19,10 +19,10 @@ is_of (pattern.Named c n) m = same_text m.class c && same_text m.name n
 is_of (pattern.Exactly c n d) m = same_text m.class c && same_text m.name n && same_text m.descriptor d
 
 -- Returns the value of the last line about a method, or `before` if no line is about it.
-abbrev pub said : Bool → Specification → MethodKey → Bool
-said before [] m = before
-said before (line ∷ lines) m = said (if is_of line.pattern m then line.is_atomic else before) lines m
+abbrev pub last_decision : Bool → Specification → MethodKey → Bool
+last_decision before [] m = before
+last_decision before (line ∷ lines) m = last_decision (if is_of line.pattern m then line.is_atomic else before) lines m
 
 -- Decides whether a method is atomic: the lines say so. `<clinit>` and the methods of built-in classes never are.
 unfoldable pub is_atomic : Specification → MethodKey → Bool
-is_atomic lines m = said false lines m && not (is_initializer_name m.name) && not (is_built_in m.class)
+is_atomic lines m = last_decision false lines m && not (is_initializer_name m.name) && not (is_built_in m.class)

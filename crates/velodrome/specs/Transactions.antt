@@ -24,29 +24,29 @@ pub record ThreadState : Type 0 where
 
 -- The state of a trace: the state of each thread, the events, and the number of transactions.
 pub record TraceState : Type 0 where
-  pub courses : ℕ → ThreadState
+  pub threads : ℕ → ThreadState
   pub events : List Event
   pub transactions : ℕ
 
 abbrev pub opening_trace_state : TraceState
-opening_trace_state = record { courses = λ t. record { methods = []; transaction = None }; events = []; transactions = 0 }
+opening_trace_state = record { threads = λ t. record { methods = []; transaction = None }; events = []; transactions = 0 }
 
 -- Replaces the state of a thread.
 abbrev pub with_thread_state : ℕ → ThreadState → TraceState → TraceState
-with_thread_state t course w = record w { courses = λ u. if u == t then course else w.courses u }
+with_thread_state t thread w = record w { threads = λ u. if u == t then thread else w.threads u }
 
 abbrev pub has_atomic : Specification → List MethodKey → Bool
 has_atomic lines methods = list_any (is_atomic lines) methods
 
-abbrev pub entered : MethodKey → ThreadState → ThreadState
-entered m course = record { methods = m ∷ course.methods; transaction = course.transaction }
+abbrev pub with_entry : MethodKey → ThreadState → ThreadState
+with_entry m thread = record { methods = m ∷ thread.methods; transaction = thread.transaction }
 
 -- Closes the innermost method of a thread. With its last atomic method the transaction ends.
-abbrev pub exited : Specification → ThreadState → ThreadState
-exited lines course =
+abbrev pub with_exit : Specification → ThreadState → ThreadState
+with_exit lines thread =
     record {
-      methods = drop 1 course.methods;
-      transaction = if has_atomic lines (drop 1 course.methods) then course.transaction else None;
+      methods = drop 1 thread.methods;
+      transaction = if has_atomic lines (drop 1 thread.methods) then thread.transaction else None;
     }
 
 -- Returns the transaction of a thread's next event when `begun` transactions have begun. It is the open transaction, or
@@ -60,24 +60,24 @@ transactions_after (Some n) begun = begun
 transactions_after None begun = begun + 1
 
 -- Appends an event in transaction n. The transaction stays open if an atomic method of the thread is open.
-abbrev pub happened : Specification → Item → ThreadState → ℕ → TraceState → TraceState
-happened lines i course n w =
-    with_thread_state (thread_of i) (record course { transaction = if has_atomic lines course.methods then Some n else None })
+abbrev pub with_event : Specification → Item → ThreadState → ℕ → TraceState → TraceState
+with_event lines i thread n w =
+    with_thread_state (thread_of i) (record thread { transaction = if has_atomic lines thread.methods then Some n else None })
     (record {
-      courses = w.courses;
+      threads = w.threads;
       events = w.events ++ record { number = length w.events + 1; transaction = n; item = i } ∷ [];
-      transactions = transactions_after course.transaction w.transactions;
+      transactions = transactions_after thread.transaction w.transactions;
     })
 
 -- Returns the trace state after an item.
 unfoldable pub state_after_item : Specification → TraceState → Item → TraceState
-state_after_item lines w (item.Enter t m) = with_thread_state t (entered m (w.courses t)) w
-state_after_item lines w (item.Exit t m) = with_thread_state t (exited lines (w.courses t)) w
+state_after_item lines w (item.Enter t m) = with_thread_state t (with_entry m (w.threads t)) w
+state_after_item lines w (item.Exit t m) = with_thread_state t (with_exit lines (w.threads t)) w
 state_after_item lines w i =
-    let course = w.courses (thread_of i) in happened lines i course (next_transaction course.transaction w.transactions) w
+    let thread = w.threads (thread_of i) in with_event lines i thread (next_transaction thread.transaction w.transactions) w
 
-unfoldable pub walk : Specification → List Item → TraceState
-walk lines items = fold (state_after_item lines) opening_trace_state items
+unfoldable pub trace_state_of : Specification → List Item → TraceState
+trace_state_of lines items = fold (state_after_item lines) opening_trace_state items
 
 -- ---- Which items may follow
 
@@ -90,7 +90,7 @@ is_innermost m (n ∷ methods) = same_method m n
 
 -- Tests that an exit is of the innermost open method of its thread.
 abbrev pub is_matched : TraceState → Item → Bool
-is_matched w (item.Exit t m) = is_innermost m (w.courses t).methods
+is_matched w (item.Exit t m) = is_innermost m (w.threads t).methods
 is_matched w i = true
 
 -- Decides whether an item is an event. Marks are not.

@@ -14,7 +14,7 @@ use jvms_file::insn::ArrayKind;
 
 /// Returns the name of an array's class without its first bracket.
 #[inline(always)]
-pub(crate) fn behind_bracket(class: &[u16]) -> &[u16]
+pub(crate) fn after_bracket(class: &[u16]) -> &[u16]
     ensures { result.now ≡ drop 1 class.now }
 {
     match class {
@@ -28,7 +28,7 @@ pub(crate) fn behind_bracket(class: &[u16]) -> &[u16]
 pub(crate) fn component_type(class: &[u16]) -> ParsedType<'_>
     ensures { type_of result ≡ component_type class.now }
 {
-    match field_in(behind_bracket(class)) {
+    match field_in(after_bracket(class)) {
         Some(t) => t,
         None => ParsedType {
             dimensions: 0,
@@ -46,7 +46,7 @@ pub(crate) fn component_class(class: &[u16]) -> &[u16]
             dimensions: 0,
             innermost: ParsedElement::Object(name),
         } => name,
-        _ => behind_bracket(class),
+        _ => after_bracket(class),
     }
 }
 

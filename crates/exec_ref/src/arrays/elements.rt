@@ -6,7 +6,7 @@ ghost use Rattle.jvms_machine.specs.Arrays.{if_deep, element_size, fits_componen
 ghost use Rattle.jvms_machine.specs.Places.{top_value};
 ghost use Rattle.jvms_machine.specs.State.{object_at};
 ghost use Rattle.exec_ref.specs.Asked.{element_by, loads_from, stores_to};
-ghost use Rattle.machine_parts.specs.Decided.{seen};
+ghost use Rattle.machine_parts.specs.Decided.{decision_value};
 
 use super::components::{component_class, component_type, is_reference_kind, serves};
 use exec::{element_size, kind_of_elements, top_value};
@@ -17,7 +17,7 @@ use jvms_machine::machine::BadCause;
 use jvms_machine::value::Value;
 use jvms_program::thrown::Thrown;
 use machine_parts::{
-    Decided, Parts, bad, has_depth, never_seen, reaches, read, stored_in_component, taking,
+    Decided, Parts, bad, has_depth, never_seen, reaches, read_decision, stored_in_component, taking,
 };
 use machine_thread::Thread;
 
@@ -42,7 +42,7 @@ fn load_from<'p>(
     n: i32,
     reference: u32,
 ) -> Decided<'p>
-    ensures { seen result
+    ensures { decision_value result
         ≡ loads_from parts.now.limits parts.now.state thread.now frame.now kind n reference }
 {
     let Some(class) = parts.heap.class_of(reference) else {
@@ -58,7 +58,7 @@ fn load_from<'p>(
         None => parts.throws(thread, Thrown::ArrayIndexOutOfBoundsException),
         Some(value) => {
             let index = n.unsigned_abs();
-            read(frame, Effect::LoadElement { reference, index }, 2, value)
+            read_decision(frame, Effect::LoadElement { reference, index }, 2, value)
         }
     }
 }
@@ -71,8 +71,10 @@ pub(crate) fn load_decision<'p>(
     frame: &Frame,
     kind: ArrayKind,
 ) -> Decided<'p>
-    ensures { seen result ≡ if_deep frame.now 2 (element_size kind) (load_operands parts.now.limits
-        parts.now.state thread.now frame.now kind frame.now.activation.operands) }
+    ensures { decision_value result
+        ≡ if_deep frame.now 2 (element_size kind)
+        (load_operands parts.now.limits parts.now.state thread.now frame.now kind
+        frame.now.activation.operands) }
 {
     if !has_depth(frame, 2, element_size(kind)) {
         return bad(BadCause::Depth);
@@ -114,7 +116,7 @@ fn store_to<'p>(
     reference: u32,
 ) -> Decided<'p>
     requires { frame.now.activation.place + 1 < 2 ^ 64 }
-    ensures { seen result ≡ stores_to parts.now.limits parts.now.state thread.now
+    ensures { decision_value result ≡ stores_to parts.now.limits parts.now.state thread.now
         parts.now.program frame.now.activation kind value n reference }
 {
     let Some(class) = parts.heap.class_of(reference) else {
@@ -152,7 +154,7 @@ fn store_below<'p>(
 ) -> Decided<'p>
     requires place { frame.now.activation.place + 1 < 2 ^ 64 }
     requires there { 2 + element_size kind ≤ length frame.now.activation.operands }
-    ensures { seen result
+    ensures { decision_value result
         ≡ store_below parts.now.program parts.now.limits parts.now.state thread.now
         frame.now.activation kind value (drop (element_size kind) frame.now.activation.operands) }
 {
@@ -176,7 +178,7 @@ pub(crate) fn store_decision<'p>(
     kind: ArrayKind,
 ) -> Decided<'p>
     requires { frame.now.activation.place + 1 < 2 ^ 64 }
-    ensures { seen result ≡ if_deep frame.now (2 + element_size kind) 0 (store_operands
+    ensures { decision_value result ≡ if_deep frame.now (2 + element_size kind) 0 (store_operands
         parts.now.program parts.now.limits parts.now.state thread.now frame.now.activation kind
         (top_value (kind_of_elements kind) frame.now.activation.operands)) }
 {

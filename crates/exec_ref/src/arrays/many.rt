@@ -5,9 +5,9 @@ ghost use Rattle.std.specs.List.{list_all, list_any};
 ghost use Rattle.jvms_machine.specs.Heap.{arrays_made, elements_made, has_dimensions, has_room_for_elements};
 ghost use Rattle.jvms_machine.specs.Arrays.{is_int, is_negative, length_of_value, new_arrays_room, new_arrays_decision};
 ghost use Rattle.exec_ref.specs.Counting.{capped, lengths_decision};
-ghost use Rattle.machine_parts.specs.Decided.{seen};
+ghost use Rattle.machine_parts.specs.Decided.{decision_value};
 
-use super::components::{behind_bracket, component_type};
+use super::components::{after_bracket, component_type};
 use crate::arrays::{has_room_for_elements, making};
 use frames::Frame;
 use jvms_machine::action::NewObject;
@@ -65,7 +65,7 @@ fn has_dimensions(class: &[u16], dimensions: u8) -> bool
         1 => true,
         _ => {
             component_type(class).dimensions != 0
-                && has_dimensions(behind_bracket(class), dimensions - 1)
+                && has_dimensions(after_bracket(class), dimensions - 1)
         }
     }
 }
@@ -124,7 +124,7 @@ fn has_room_for_counted(parts: &Parts, objects: usize, elements: usize) -> bool
 }
 
 /// Decides the creation of arrays of these lengths, if there is room for all of them and their elements.
-#[tactic(auto, using(crate::proofs::CountLaws::room_told, crate::proofs::CountLaws::one_at_least, crate::proofs::CountLaws::one_dimension))]
+#[tactic(auto, using(crate::proofs::CountLaws::room_of_count, crate::proofs::CountLaws::one_at_least, crate::proofs::CountLaws::one_dimension))]
 fn new_arrays_room<'p>(
     parts: &Parts<'p>,
     thread: &Thread,
@@ -133,7 +133,7 @@ fn new_arrays_room<'p>(
     lengths: &[Value],
 ) -> Decided<'p>
     requires { length lengths.now ≡ dimensions }
-    ensures { seen result ≡ new_arrays_room parts.now.limits parts.now.state
+    ensures { decision_value result ≡ new_arrays_room parts.now.limits parts.now.state
         thread.now class.now dimensions (map length_of_value lengths.now) }
 {
     if !has_dimensions(class.as_slice(), dimensions) {
@@ -157,7 +157,7 @@ fn lengths_decision<'p>(
     lengths: &[Value],
 ) -> Decided<'p>
     requires { length lengths.now ≡ dimensions }
-    ensures { seen result ≡ lengths_decision parts.now.program parts.now.limits
+    ensures { decision_value result ≡ lengths_decision parts.now.program parts.now.limits
         parts.now.state thread.now class.now dimensions lengths.now }
 {
     if !are_ints(lengths) {
@@ -181,7 +181,7 @@ pub fn new_arrays_decision<'p>(
     class: &'p Text,
     dimensions: u8,
 ) -> Decided<'p>
-    ensures { seen result ≡ new_arrays_decision parts.now.program parts.now.limits
+    ensures { decision_value result ≡ new_arrays_decision parts.now.program parts.now.limits
         parts.now.state thread.now frame.now class.now dimensions }
 {
     if !has_depth(frame, dimensions, 1) {

@@ -6,7 +6,7 @@ ghost use Rattle.jvms_file.specs.declared.descriptor.MethodType.{MethodType as M
 ghost use Rattle.std.specs.Prelude.{◌≡◌, ◌+◌, ◌≤◌, false, length, MatchOption, Some, slice_get};
 ghost use Rattle.jvms_machine.specs.State.{result_length};
 ghost use Rattle.jvms_machine.specs.Activations.{has_depth};
-ghost use Rattle.jvms_machine.specs.Calls.{taken, are_of_types, receiver_of, are_of_call};
+ghost use Rattle.jvms_machine.specs.Calls.{slots_of_call, are_of_types, receiver_of, are_of_call};
 ghost use Rattle.invoke.specs.Calling.{Takes};
 
 use descriptor::parameter_units;
@@ -19,9 +19,9 @@ use jvms_program::uses::is_static_call;
 use machine_parts::{kind_of_type, type_size};
 
 /// Returns the number of operands that a call instruction takes, where its arguments take `arguments`.
-fn taken(how: Invoke, arguments: usize) -> usize
+fn slots_of_call(how: Invoke, arguments: usize) -> usize
     requires { arguments ≤ 65535 }
-    ensures { (t : MeantType) → arguments ≡ units t → result ≡ taken how t }
+    ensures { (t : MeantType) → arguments ≡ units t → result ≡ slots_of_call how t }
 {
     if is_static_call(how) {
         arguments
@@ -42,7 +42,7 @@ fn given(t: &ResultType) -> usize
 
 /// Returns the number of operands that a call takes, if they are present and the result fits `max_stack`.
 pub(crate) fn taken_from(frame: &Frame, how: Invoke, t: &MethodType) -> Option<u16>
-    ensures { MatchOption result (has_depth frame.now.body (taken how t.now)
+    ensures { MatchOption result (has_depth frame.now.body (slots_of_call how t.now)
         (result_length t.now.result) frame.now.activation ≡ false)
         (λ takes. Takes frame.now how t.now takes) }
 {
@@ -51,7 +51,7 @@ pub(crate) fn taken_from(frame: &Frame, how: Invoke, t: &MethodType) -> Option<u
     if arguments > height {
         return None;
     }
-    let takes = taken(how, arguments);
+    let takes = slots_of_call(how, arguments);
     let most = usize::from(frame.body().max_stack);
     if takes <= height && height - takes + given(&t.result) <= most {
         Some(takes as u16)

@@ -6,7 +6,7 @@ ghost use Rattle.jvms_program.specs.Resolution.{ResolvedMethod};
 ghost use Rattle.jvms_machine.specs.Calls.{run_of_object, run_decision, selected_run};
 ghost use Rattle.jvms_machine.specs.State.{object_at};
 ghost use Rattle.std.specs.Prelude.{Option};
-ghost use Rattle.machine_parts.specs.Decided.{seen};
+ghost use Rattle.machine_parts.specs.Decided.{decision_value};
 
 use super::{Given, first_call};
 use jvms_machine::machine::ThreadId;
@@ -30,8 +30,9 @@ fn selected_run<'p>(
     selected: Option<MethodNumber>,
 ) -> Decided<'p>
     ensures { (what : Option ResolvedMethod)
-        → LocatesItem (IsMethodAt parts.now.program) what selected → seen result ≡ selected_run
-        parts.now.program parts.now.limits parts.now.state t thread.now receiver what }
+        → LocatesItem (IsMethodAt parts.now.program) what selected → decision_value result
+        ≡ selected_run parts.now.program parts.now.limits parts.now.state t thread.now receiver
+        what }
 {
     let Some(n) = selected else {
         return parts.throws(thread, Thrown::AbstractMethodError);
@@ -48,7 +49,7 @@ fn selected_run<'p>(
 
 /// Decides the call of `run` for the object of a reference.
 fn run_of_object<'p>(parts: &Parts<'p>, t: ThreadId, thread: &Thread, reference: u32) -> Decided<'p>
-    ensures { seen result ≡ run_of_object parts.now.program parts.now.limits
+    ensures { decision_value result ≡ run_of_object parts.now.program parts.now.limits
         parts.now.state t thread.now reference (object_at parts.now.state.heap reference) }
 {
     match parts.heap.class_of(reference) {
@@ -65,7 +66,7 @@ fn run_of_object<'p>(parts: &Parts<'p>, t: ThreadId, thread: &Thread, reference:
 
 /// Decides the call of `run` for the thread's object.
 pub(crate) fn run_decision<'p>(parts: &Parts<'p>, t: ThreadId, thread: &Thread) -> Decided<'p>
-    ensures { seen result ≡ run_decision parts.now.program
+    ensures { decision_value result ≡ run_decision parts.now.program
         parts.now.limits parts.now.state t thread.now thread.now.object }
 {
     match thread.object() {

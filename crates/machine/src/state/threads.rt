@@ -2,7 +2,7 @@
 
 ghost use Rattle.std.specs.Prelude.{◌≡◌, length, option_copied};
 ghost use Rattle.std.specs.Option.{option_and_then, option_map};
-ghost use Rattle.machine.specs.Views.{thread_at, frame_at, shown, uncaught};
+ghost use Rattle.machine.specs.Views.{thread_at, frame_at, frame_of, uncaught};
 
 use crate::machine::Machine;
 use frames::Frame;
@@ -23,7 +23,7 @@ pub enum FrameView<'m, 'p> {
 
 /// Returns the view of a frame.
 fn view<'m, 'p>(frame: &'m StackFrame<Frame<'p>>) -> FrameView<'m, 'p>
-    ensures { shown result ≡ frame.now }
+    ensures { frame_of result ≡ frame.now }
 {
     match frame {
         StackFrame::Call(frame) => FrameView::Call(frame),
@@ -86,7 +86,7 @@ impl<'p> Machine<'p> {
 
     /// Returns the frame of a thread at a depth, where the top has depth 0 (JVMS 2.6).
     pub fn frame(&self, t: ThreadId, depth: usize) -> Option<FrameView<'_, 'p>>
-        ensures { option_map shown result ≡ frame_at self.now t depth }
+        ensures { option_map frame_of result ≡ frame_at self.now t depth }
     {
         let thread = self.thread(t)?;
         let frame = thread.frame(depth)?;

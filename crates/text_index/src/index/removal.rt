@@ -2,7 +2,7 @@
 
 ghost use Rattle.std.specs.Prelude.{◌≡◌, ◌≢◌, List, ℕ, None, Some, if◌then◌else◌};
 ghost use Rattle.jvms_file.specs.Names.{same_text};
-ghost use Rattle.text_index.specs.Found.{found};
+ghost use Rattle.text_index.specs.Lookup.{indexed_reference};
 
 use super::Index;
 
@@ -10,16 +10,19 @@ impl Index {
     /// Removes the reference of a text.
     fn remove(&mut self, units: &[u16])
         ensures { (q : List ℕ)
-            → found self.new q ≡ (if same_text units.now q then None else found self.old q) }
+            → indexed_reference self.new q
+            ≡ (if same_text units.now q then None else indexed_reference self.old q) }
     {
         let _ = self.references.remove(units);
     }
 
     /// Removes the reference of a text, if it is this one.
     pub fn remove_matching(&mut self, units: &[u16], reference: usize)
-        ensures taken { found self.old units.now ≡ Some reference → (q : List ℕ)
-            → found self.new q ≡ (if same_text units.now q then None else found self.old q) }
-        ensures other { found self.old units.now ≢ Some reference → self.new ≡ self.old }
+        ensures taken { indexed_reference self.old units.now ≡ Some reference → (q : List ℕ)
+            → indexed_reference self.new q
+            ≡ (if same_text units.now q then None else indexed_reference self.old q) }
+        ensures other { indexed_reference self.old units.now ≢ Some reference
+            → self.new ≡ self.old }
     {
         match self.find(units) {
             Some(found) if found as usize == reference => self.remove(units),

@@ -2,9 +2,9 @@ use Rattle.std.proofs.Common.{◌≡◌, ◌<◌, ◌++◌, ◌∷◌, [], ℕ, 
 use Rattle.std.proofs.lemmas.Grind.{common_steps}
 use Rattle.std.proofs.lemmas.List.{get_or_read}
 use Rattle.accesses.specs.ByThread.{AreFound, IsEnd, linked_in, no_node, notes_of, thread_in}
-use Rattle.accesses.specs.Kept.{replaced}
+use Rattle.accesses.specs.Kept.{with_access}
 use Rattle.accesses.specs.declared.by_thread.Node.{Node}
-use Rattle.accesses.proofs.Ways.{added, found_with_new, found_with_note, fresh, notes_added, notes_replaced, with_note}
+use Rattle.accesses.proofs.Ways.{added, found_with_new, found_with_note, fresh, notes_added, notes_with_access, with_note}
 use Rattle.accesses.proofs.by_thread.note_in.Goals as goal
 
 pub find-requires : goal.find-requires
@@ -24,7 +24,7 @@ returns-in-At-clause-noted c =
     let i = c.in-At.index in
     let there = subst (λ (ms : List Node). (i < length ms) × (thread_in ms i ≡ c.args.noted.thread)) c.as_slice.ensures.value c.in-At.ensures in
     let read = get_or_read ns i c.index_mut.result.now there.0 c.index_mut.ensures.value no_node in
-    subst (λ (n : Node). notes_of (set ns i (with_note n c.args.noted)) ≡ replaced c.args.noted (notes_of ns)) (sym read) (notes_replaced ns i c.args.noted c.requires.found there.0 there.1)
+    subst (λ (n : Node). notes_of (set ns i (with_note n c.args.noted)) ≡ with_access c.args.noted (notes_of ns)) (sym read) (notes_with_access ns i c.args.noted c.requires.found there.0 there.1)
 
 pub returns-in-Behind-clause-found : goal.returns-in-Behind-clause-found
 returns-in-Behind-clause-found c =

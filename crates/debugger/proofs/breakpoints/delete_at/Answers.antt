@@ -1,7 +1,7 @@
 use Rattle.std.proofs.Common.{◌∙◌, ap, arith, rules, not, set}
 use Rattle.std.proofs.lemmas.Fn.{filter_same}
 use Rattle.debugger.specs.declared.breakpoints.Slot.{Slot}
-use Rattle.debugger.specs.Breakpoints.{kept}
+use Rattle.debugger.specs.Breakpoints.{breakpoints_of}
 use Rattle.debugger.proofs.BreakpointLaws.{deleted_slot, deleted_slots, dropped_slots, kept_dropped, removed}
 use Rattle.debugger.proofs.breakpoints.delete_at.Goals as goal
 
@@ -24,4 +24,4 @@ pub returns-clause-removed : goal.returns-clause-removed
 returns-clause-removed c =
     let all = removed c.args.k c.args.i c.args.slots.now.items c.index_mut.result.now c.requires.slot c.index_mut.ensures.value in
     let left = filter_same _ (λ (s : Slot). not s.is_deleted) _ (λ x b f k. search rules) _ _ c.retain.ensures.filtered in
-    (all.0, all.1, ap kept left ∙ kept_dropped (set c.args.slots.now.items c.args.i (deleted_slot c.index_mut.result.now)) ∙ all.2)
+    (all.0, all.1, ap breakpoints_of left ∙ kept_dropped (set c.args.slots.now.items c.args.i (deleted_slot c.index_mut.result.now)) ∙ all.2)

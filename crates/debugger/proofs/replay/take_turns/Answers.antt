@@ -1,6 +1,6 @@
 use Rattle.std.proofs.Common.{length, Some, sym, ap, ◌∙◌, arith}
 use Rattle.machine.specs.Machine.{Machine, transition_of, with_state}
-use Rattle.trace.specs.Recording.{recorded}
+use Rattle.trace.specs.Recording.{with_items}
 use Rattle.debugger.proofs.TurnLaws.{none_ran, ran_state, ran_items, ran_last, one_state, one_items, one_last}
 use Rattle.debugger.proofs.replay.take_turns.Goals as goal
 
@@ -38,5 +38,5 @@ returns-clause-items c =
     let m = c.args.machine.now in
     let t = c.args.t in
     let none = none_ran c.step_consecutive-count.result t (length m.state.threads) m c.step_consecutive-count.new.self c.args.recording.now c.step_consecutive-count.new.recording (omega (arith, c.if-count-gt0.false)) c.step_consecutive-count.ensures.ran in
-    c.in_ok-outcome.ensures.items ∙ ap (λ r. recorded r (transition_of c.step_consecutive-count.new.self t).items) none.1 ∙ ap (λ (x : Machine). recorded c.args.recording.now (transition_of x t).items) none.0
-    ∙ ap (recorded c.args.recording.now) (sym (one_items t m))
+    c.in_ok-outcome.ensures.items ∙ ap (λ r. with_items r (transition_of c.step_consecutive-count.new.self t).items) none.1 ∙ ap (λ (x : Machine). with_items c.args.recording.now (transition_of x t).items) none.0
+    ∙ ap (with_items c.args.recording.now) (sym (one_items t m))

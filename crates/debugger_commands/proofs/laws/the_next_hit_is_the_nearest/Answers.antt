@@ -10,5 +10,5 @@ returns-clause-nearest c = next_hit_is_nearest
 pub returns-clause-within : goal.returns-clause-within
 returns-clause-within c = next_hit_within
 
-pub returns-clause-behind : goal.returns-clause-behind
-returns-clause-behind c = next_hit_above
+pub returns-clause-beyond : goal.returns-clause-beyond
+returns-clause-beyond c = next_hit_above

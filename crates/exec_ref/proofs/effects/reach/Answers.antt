@@ -7,7 +7,7 @@ use Rattle.jvms_machine.specs.Actions.{affected, applied_to, changed_to, thread_
 use Rattle.jvms_machine.proofs.EffectSoundness.{affected_thread}
 use Rattle.machine_parts.specs.Decided.{effect_value}
 use Rattle.machine_parts.specs.Machine.{Machine, with_state}
-use Rattle.machine_thread.specs.Tops.{Stands}
+use Rattle.machine_thread.specs.Tops.{HasNext}
 use Rattle.exec_ref.proofs.effects.reach.Goals as goal
 
 index_is : (threads : List Thread) (t : ℕ) (thread other : Thread) → slice_get threads t ≡ Some thread → slice_index_or threads t other ≡ thread
@@ -28,12 +28,12 @@ found c =
 of_thread : (P : Thread → Type 0) (o : Option Thread) (thread : Thread) → o ≡ Some thread → IfSome o P → P thread
 of_thread P o thread is holds = subst (λ x. IfSome x P) is holds
 
-pub go_on-requires-clause-room : goal.go_on-requires-clause-room
-go_on-requires-clause-room c = rw (found c) c.requires.ready.2
+pub apply-requires-clause-room : goal.apply-requires-clause-room
+apply-requires-clause-room c = rw (found c) c.requires.ready.2
 
-pub go_on-requires-clause-stands : goal.go_on-requires-clause-stands
-go_on-requires-clause-stands c =
-    rw (found c) (of_thread (λ (x : Thread). Stands x.frames) (slice_get c.args.parts.now.state.threads c.args.t) c.requires.ready.0 c.requires.ready.1 c.requires.stands)
+pub apply-requires-clause-next : goal.apply-requires-clause-next
+apply-requires-clause-next c =
+    rw (found c) (of_thread (λ (x : Thread). HasNext x.frames) (slice_get c.args.parts.now.state.threads c.args.t) c.requires.ready.0 c.requires.ready.1 c.requires.next)
 
 pub returns-clause-state : goal.returns-clause-state
 unfolding applied_to
@@ -48,6 +48,6 @@ returns-clause-state c =
     let there : slice_get c.parts.inside.threads.items t ≡ Some c.requires.ready.0 = ap (λ (x : Machine). slice_get x.state.threads t) view ∙ at in
     let same : c.index_mut.result.now ≡ c.requires.ready.0 =
     c.index_mut.ensures.value ∙ index_is c.parts.inside.threads.items t c.requires.ready.0 c.index_mut.result.now there in
-    ap (λ (x : Machine). with_state x (record x.state { threads = slice_set x.state.threads t c.go_on.new.self })) view
-    ∙ ap (λ (x : Thread). with_state m (record s { threads = slice_set s.threads t x })) (c.go_on.ensures ∙ ap (thread_after_action c.args.act) same)
+    ap (λ (x : Machine). with_state x (record x.state { threads = slice_set x.state.threads t c.apply.new.self })) view
+    ∙ ap (λ (x : Thread). with_state m (record s { threads = slice_set s.threads t x })) (c.apply.ensures ∙ ap (thread_after_action c.args.act) same)
     ∙ sym (ap (λ (o : Option Thread). with_state m (record s { threads = changed_to s.threads t (thread_after_action c.args.act) o })) at)

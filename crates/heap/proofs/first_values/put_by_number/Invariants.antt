@@ -2,7 +2,7 @@ use Rattle.std.proofs.Common.{◌++◌}
 use Rattle.std.specs.List.{flat_map}
 use Rattle.jvms_program.specs.Resolution.{chain}
 use Rattle.heap.specs.FirstValues.{values_down}
-use Rattle.heap.specs.Held.{name_at}
+use Rattle.heap.specs.Stored.{name_at}
 use Rattle.heap.proofs.ChainLaws.{LeavesAt}
 use Rattle.heap.proofs.first_values.put_by_number.Given as goal
 

@@ -1,6 +1,6 @@
 use Rattle.std.proofs.Common.{subst, sym}
 use Rattle.std.specs.List.{AllByRecursion}
-use Rattle.heap.specs.Held.{IsKept}
+use Rattle.heap.specs.Stored.{IsKept}
 use Rattle.heap.proofs.SavedLaws.{group_kept}
 use Rattle.heap.proofs.saved.restored.Goals as goal
 

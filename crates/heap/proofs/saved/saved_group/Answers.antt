@@ -1,5 +1,5 @@
 use Rattle.std.proofs.Common.{subst}
-use Rattle.heap.specs.Held.{AllAlike}
+use Rattle.heap.specs.Stored.{AllAlike}
 use Rattle.heap.proofs.SameLaws.{shared_shown, shared_kept}
 use Rattle.heap.proofs.saved.saved_group.Goals as goal
 

@@ -1,6 +1,6 @@
 use Rattle.std.proofs.Common.{◌+◌, drop}
 use Rattle.std.proofs.lemmas.Result.{err_from_is_err_and}
-use Rattle.jvms_file.specs.Results.{collected}
+use Rattle.jvms_file.specs.Results.{results_of}
 use Rattle.insn.specs.Places.{place_or_fault}
 use Rattle.insn.proofs.Collecting.{items_go_on, items_stop, drop_next}
 use Rattle.insn.proofs.places.places.Goals as goal
@@ -10,10 +10,10 @@ returns-in_err-one c =
     let p = err_from_is_err_and c.from_residual-in_err-one.result c.from_residual-in_err-one.ensures.1 in
     let f = place_or_fault c.args.starts.now c.args.fault in
     let i = c.loop-target.target-index in
-    rw (p.1, p.2) (items_stop c.in_err-one.field-0.0 f c.loop-target.found (drop i c.args.targets.now) _ (drop (i + 1) c.args.targets.now) (collected f c.args.targets.now) (drop_next c.args.targets.now i 0 c.loop-target-test.true) c.in_err-one.ensures c.loop-target.invariant)
+    rw (p.1, p.2) (items_stop c.in_err-one.field-0.0 f c.loop-target.found (drop i c.args.targets.now) _ (drop (i + 1) c.args.targets.now) (results_of f c.args.targets.now) (drop_next c.args.targets.now i 0 c.loop-target-test.true) c.in_err-one.ensures c.loop-target.invariant)
 
 pub loop-target-preserved : goal.loop-target-preserved
 loop-target-preserved c =
     let f = place_or_fault c.args.starts.now c.args.fault in
     let i = c.loop-target.target-index in
-    rw c.in_ok-push.ensures.ok (items_go_on f c.loop-target.found (drop i c.args.targets.now) _ (drop (i + 1) c.args.targets.now) c.in_ok-one.one (collected f c.args.targets.now) (drop_next c.args.targets.now i 0 c.loop-target-test.true) c.in_ok-one.ensures c.loop-target.invariant)
+    rw c.in_ok-push.ensures.ok (items_go_on f c.loop-target.found (drop i c.args.targets.now) _ (drop (i + 1) c.args.targets.now) c.in_ok-one.one (results_of f c.args.targets.now) (drop_next c.args.targets.now i 0 c.loop-target-test.true) c.in_ok-one.ensures c.loop-target.invariant)

@@ -3,7 +3,7 @@ use Rattle.std.proofs.lemmas.List.{drop_all, drop_more}
 use Rattle.std.specs.List.{fold}
 use Rattle.jvms_machine.specs.declared.trace.Item.{Item}
 use Rattle.velodrome.specs.Specification.{Specification}
-use Rattle.velodrome.specs.Transactions.{TraceState, opening_trace_state, walk, state_after_item}
+use Rattle.velodrome.specs.Transactions.{TraceState, opening_trace_state, trace_state_of, state_after_item}
 use Rattle.report.specs.Marks.{methods_after}
 use Rattle.report.proofs.actor.open_methods.Goals as goal
 
@@ -20,7 +20,7 @@ at_end : (lines : Specification) (w end : TraceState) (left : List Item) → lef
 at_end lines w end left is leads = sym (ap (fold (state_after_item lines) w) is) ∙ leads
 
 pub loop-item-init : goal.loop-item-init
-unfolding walk
+unfolding trace_state_of
 loop-item-init c =
     λ lines. (opening_trace_state, ap (λ ms. reverse (map (λ m. m.now) ms)) c.new-methods.ensures.items, refl)
 
@@ -39,5 +39,5 @@ pub returns : goal.returns
 returns c =
     λ lines. let so_far = c.loop-item.invariant lines in
     let none = drop_all c.loop-item.item-index c.args.items.now c.loop-item-test.false in
-    let same : so_far.0 ≡ walk lines c.args.items.now = at_end lines so_far.0 _ _ none so_far.2 in
-    so_far.1 ∙ ap (λ (w : TraceState). (w.courses c.args.thread).methods) same
+    let same : so_far.0 ≡ trace_state_of lines c.args.items.now = at_end lines so_far.0 _ _ none so_far.2 in
+    so_far.1 ∙ ap (λ (w : TraceState). (w.threads c.args.thread).methods) same

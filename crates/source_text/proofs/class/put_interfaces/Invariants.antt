@@ -1,9 +1,9 @@
 -- The lines so far are written.
 use Rattle.std.proofs.Common.{◌≡◌, ◌++◌, [], ◌∷◌, take, flat_map}
 use Rattle.std.specs.Prelude.{codes}
-use Rattle.listing_spec.specs.Printed.{joined}
-use Rattle.source_text.specs.Lines.{ended}
+use Rattle.listing_spec.specs.Printed.{join_words}
+use Rattle.source_text.specs.Lines.{with_lf}
 use Rattle.source_text.proofs.class.put_interfaces.Given as goal
 
 abbrev pub invariant-loop-name : goal.invariant-loop-name
-invariant-loop-name l = l.out.items ≡ l.initial.out.items ++ flat_map (λ name. ended (joined (codes ".implements" ∷ name ∷ []))) (take l.name-index l.names)
+invariant-loop-name l = l.out.items ≡ l.initial.out.items ++ flat_map (λ name. with_lf (join_words (codes ".implements" ∷ name ∷ []))) (take l.name-index l.names)

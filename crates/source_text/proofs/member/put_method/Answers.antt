@@ -1,13 +1,13 @@
 -- The first line, the thrown exceptions, the body and the last line are written in this order.
 use Rattle.std.proofs.Common.{sym}
-use Rattle.listing_spec.specs.Printed.{joined, method_text}
+use Rattle.listing_spec.specs.Printed.{join_words, method_text}
 use Rattle.source_text.specs.Lines.{text_of_lines}
 use Rattle.source_text.proofs.Appending.{behind, then}
 use Rattle.source_text.proofs.Methods.{method_pieces}
 use Rattle.source_text.proofs.member.put_method.Goals as goal
 
 pub returns : goal.returns
-unfolding joined
+unfolding join_words
 returns c =
     let m = c.args.method.now in
     let out = c.put_line-2.new.out.items in

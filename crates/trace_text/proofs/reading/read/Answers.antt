@@ -8,7 +8,7 @@ pub returns-in_default-2 : goal.returns-in_default-2
 returns-in_default-2 c = let h = c.loop-rest.invariant.count in record {
   items = c.loop-rest.trace;
   rest = c.loop-rest.rest.now;
-  may_stand = c.loop-rest.invariant.may_stand;
+  are_valid = c.loop-rest.invariant.are_valid;
   split = c.loop-rest.invariant.split;
   count = omega arith;
   fault = faulty_line c.loop-rest.rest.now c.in-Some.first.now c.in-Some.behind.now (not_empty c.loop-rest.rest.now c.is_empty.result c.is_empty.ensures c.loop-rest-test.true)

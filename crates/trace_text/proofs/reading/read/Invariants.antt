@@ -8,7 +8,7 @@ use Rattle.trace_text.proofs.reading.read.Given as goal
 abbrev pub invariant-loop-rest : goal.invariant-loop-rest
 invariant-loop-rest l = record {
   split : l.text ≡ trace_text l.trace ++ l.rest;
-  may_stand : AllByRecursion IsItem l.trace;
+  are_valid : AllByRecursion IsItem l.trace;
   count : l.line ≡ length l.trace;
   within : l.line + length l.rest ≤ length l.text;
 }

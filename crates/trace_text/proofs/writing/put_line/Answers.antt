@@ -18,4 +18,4 @@ pub truncate-requires : goal.truncate-requires
 truncate-requires c within =
     let old = c.args.out.now in
     let new = c.put_parts.new.out in
-    may_be_truncated (string_bytes old) (string_bytes new) c.len-before.result (search rules) (IsUtf8-string_bytes old) (IsUtf8-string_bytes new) c.in-Err.ensures.behind
+    may_be_truncated (string_bytes old) (string_bytes new) c.len-before.result (search rules) (IsUtf8-string_bytes old) (IsUtf8-string_bytes new) c.in-Err.ensures.appended

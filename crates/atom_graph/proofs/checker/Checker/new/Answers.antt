@@ -3,6 +3,6 @@ use Rattle.atom_graph.proofs.checker.Checker.new.Goals as goal
 
 pub invariant_of-result : goal.invariant_of-result
 invariant_of-result c =
-    let walked = c.new-walked.ensures in
+    let trace = c.new-trace.ensures in
     let watch = c.in_ok-watch.ensures in
-    checker_opened c.new-walked.result c.in_ok-watch.watch walked.table walked.items walked.transactions walked.begun watch.0 watch.1 watch.2
+    checker_opened c.new-trace.result c.in_ok-watch.watch trace.table trace.items trace.transactions trace.begun watch.0 watch.1 watch.2

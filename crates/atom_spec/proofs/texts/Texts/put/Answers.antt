@@ -1,5 +1,5 @@
 -- Insertion into the map's entries.
-use Rattle.atom_spec.proofs.FoundLaws.{found_put}
+use Rattle.atom_spec.proofs.LookupLaws.{found_put}
 use Rattle.atom_spec.proofs.texts.Texts.put.Goals as goal
 
 pub returns : goal.returns

@@ -16,7 +16,7 @@ returns-in-Some c = record {
 
 pub returns-then-width-number : goal.returns-then-width-number
 returns-then-width-number c = record {
-  exact = (interned-full c.args.self.now _ c.args.entry c.self.inside.next c.width-width.result c.self.view_is c.self.invariant.behind c.width-width.ensures c.if-width-number.true c.in_default.ensures.exact, refl);
+  exact = (interned-full c.args.self.now _ c.args.entry c.self.inside.next c.width-width.result c.self.view_is c.self.invariant.next_is c.width-width.ensures c.if-width-number.true c.in_default.ensures.exact, refl);
   names = tt;
   kept = λ n k is. is;
 }
@@ -24,7 +24,7 @@ returns-then-width-number c = record {
 pub returns-in_err-insert-clause-exact : goal.returns-in_err-insert-clause-exact
 returns-in_err-insert-clause-exact c =
     let some : 0 < c.width-width.result = rw c.width-width.ensures (width-some c.args.entry) in
-    let made = interned-next c.args.self.now _ c.args.entry c.self.inside.next c.width-width.result c.self.view_is c.self.invariant.behind c.width-width.ensures c.if-width-number.false some c.in_default.ensures.exact in
+    let made = interned-next c.args.self.now _ c.args.entry c.self.inside.next c.width-width.result c.self.view_is c.self.invariant.next_is c.width-width.ensures c.if-width-number.false some c.in_default.ensures.exact in
     search (rules, made)
 
 pub invariant_of-self-2 : goal.invariant_of-self-2
@@ -40,7 +40,7 @@ returns c =
     let keys = ap keys_of made ∙ keys_of-push c.self.inside.numbers.entries c.args.entry c.self.inside.next ∙ ap (λ es. es ++ c.args.entry ∷ []) c.self.view_is in
     let some : 0 < c.width-width.result = rw c.width-width.ensures (width-some c.args.entry) in
     record {
-      exact = interned-new c.args.self.now _ c.args.entry c.self.inside.next c.width-width.result c.self.view_is c.self.invariant.behind c.width-width.ensures c.if-width-number.false some c.in_default.ensures.exact ∙ ap (λ es. Ok (c.self.inside.next, es)) (sym keys);
-      names = ap (λ es. entry_at (pool_of es) c.self.inside.next) keys ∙ next_names c.args.self.now _ c.args.entry c.self.inside.next c.self.view_is c.self.invariant.behind;
+      exact = interned-new c.args.self.now _ c.args.entry c.self.inside.next c.width-width.result c.self.view_is c.self.invariant.next_is c.width-width.ensures c.if-width-number.false some c.in_default.ensures.exact ∙ ap (λ es. Ok (c.self.inside.next, es)) (sym keys);
+      names = ap (λ es. entry_at (pool_of es) c.self.inside.next) keys ∙ next_names c.args.self.now _ c.args.entry c.self.inside.next c.self.view_is c.self.invariant.next_is;
       kept = λ n k is. ap (λ es. entry_at (pool_of es) n) keys ∙ names_kept c.args.self.now c.args.entry n k is;
     }

@@ -2,7 +2,7 @@ use Rattle.std.proofs.Common.{◌≡◌, Ok, subst, sym, refl}
 use Rattle.debugger_commands.specs.declared.command.Command.{Command}
 use Rattle.debugger_commands.specs.Sessions.{Session}
 use Rattle.debugger.specs.Commands.{TakesMemory, after_command}
-use Rattle.debugger.specs.Sessions.{Debugger, seen}
+use Rattle.debugger.specs.Sessions.{Debugger, debugger_of}
 use Rattle.debugger.proofs.body.Body.carry_out.Goals as goal
 use Rattle.debugger.proofs.body.Body.carry_out.Goals.{in-Step, in-Back, in-Goto, in-Continue, in-ReverseContinue, in-Pick}
 
@@ -12,7 +12,7 @@ WantsMemory d k = TakesMemory k × (x : Session) × (after_command d k ≡ Ok x)
 
 pub returns-in-Err-clause-refused : goal.returns-in-Err-clause-refused
 returns-in-Err-clause-refused c =
-    let d = seen c.args.self.now in
+    let d = debugger_of c.args.self.now in
     elim c.match-command.branch [
       | in-Step w ↦ subst (WantsMemory d) (sym w.in-Step.is) (tt, _, refl)
       | in-Back w ↦ subst (WantsMemory d) (sym w.in-Back.is) (tt, _, refl)

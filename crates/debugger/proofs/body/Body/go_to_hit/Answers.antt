@@ -13,4 +13,4 @@ returns-clause-session c =
     let x = session_of old in
     let at : ℕ → Session = λ p. record x { position = p } in
     let there = c.in_ok-walk.ensures.position ∙ ap (λ test. next_hit test x.position (length x.choices - x.position)) (same_hits g x) in
-    on_ok_weaker c.settle-settled.result (λ same. ap (λ (d : Debugger). d.session) same ∙ ap at there) c.settle-settled.ensures.seen
+    on_ok_weaker c.settle-settled.result (λ same. ap (λ (d : Debugger). d.session) same ∙ ap at there) c.settle-settled.ensures.debugger

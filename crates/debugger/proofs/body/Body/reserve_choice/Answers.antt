@@ -12,8 +12,8 @@ returns-clause-body c =
       trace = c.requires.trace ∙ sym (ap (λ (x : Extent). items_at x.setting x.choices x.far) same.extent);
     }
 
-pub returns-clause-seen : goal.returns-clause-seen
-returns-clause-seen c =
+pub returns-clause-debugger : goal.returns-clause-debugger
+returns-clause-debugger c =
     let b = c.args.self.now in
     ap (λ (x : Extent).
     let d : Debugger = record {

@@ -1,7 +1,7 @@
 use Rattle.std.proofs.Common.{length, ap, arith, refl, ◌∙◌, sym}
 use Rattle.debugger.specs.declared.reach.Reach.{Reach}
 use Rattle.debugger.specs.States.{items_at}
-use Rattle.debugger.specs.Timelines.{Extent, branch_of, moved, setting}
+use Rattle.debugger.specs.Timelines.{Extent, branch_of, extent_after_move, setting}
 use Rattle.debugger.proofs.PickLaws.{branch_items, is_branch}
 use Rattle.debugger.proofs.body.Body.settle_on_branch.Goals as goal
 
@@ -28,7 +28,7 @@ returns-clause-body c =
     let left = c.take_items.new.self in
     let new = branch_of t c.args.t in
     let walked = c.in_ok-advance_on_branch.ensures in
-    let at = c.arrive.ensures.extent ∙ ap (λ (x : Extent). moved x left.replay left.reach) c.cut.ensures.extent in
+    let at = c.arrive.ensures.extent ∙ ap (λ (x : Extent). extent_after_move x left.replay left.reach) c.cut.ensures.extent in
     let branch = is_branch t new c.args.t c.requires.body.timeline refl in
     let all = branch_items t new w old.trace c.take_items.result c.replace_after.new.self c.requires.body.timeline branch c.requires.body.trace walked.walk walked.places.0 c.take_items.ensures.items
     c.in_ok-replace_after.ensures.ok in

@@ -1,5 +1,5 @@
 use Rattle.std.proofs.Common.{◌≡◌, ◌+◌, ◌++◌, take, replicate, Some, refl, ap, ◌∙◌, arith, sym}
-use Rattle.trace.specs.Recording.{recorded}
+use Rattle.trace.specs.Recording.{with_items}
 use Rattle.debugger.specs.States.{setting_of}
 use Rattle.debugger.proofs.RunLaws.{between_more, count_added, count_more, mark_more}
 use Rattle.debugger.proofs.replay.Replay.advance.Goals as goal
@@ -34,4 +34,4 @@ returns-clause-items c =
     let t = c.at-t.result in
     let turns = c.in_ok-turns.ensures in
     let same : take (n + k) cs ≡ take n cs ++ replicate k t = c.consecutive-most.ensures.same k turns.most ∙ ap (λ x. take n cs ++ replicate k x) (sym c.at-t.ensures) in
-    turns.items ∙ ap (recorded c.args.recording.now) (between_more g cs n (n + k) k t mark same c.requires.replay.mark)
+    turns.items ∙ ap (with_items c.args.recording.now) (between_more g cs n (n + k) k t mark same c.requires.replay.mark)

@@ -1,7 +1,7 @@
 use Rattle.std.proofs.Common.{◌≡◌, ◌+◌, ◌<◌, ◌++◌, Some, length, arith, ap, ◌∙◌, sym, subst}
 use Rattle.std.proofs.lemmas.List.{append_assoc, length-append}
 use Rattle.std.proofs.lemmas.Option.{same_Some}
-use Rattle.trace.specs.Recording.{recorded}
+use Rattle.trace.specs.Recording.{with_items}
 use Rattle.debugger.specs.States.{items_at, setting_of}
 use Rattle.debugger.specs.Walks.{IsReach, items_between}
 use Rattle.debugger.proofs.RunLaws.{items_split}
@@ -21,7 +21,7 @@ returns-clause-walk c =
     let new = c.give_back.new.trace in
     let here : old.reach.far ≡ n = omega (arith, is.far, c.requires.far) in
     let between = items_between g cs n m in
-    let kept : Some new ≡ Some (old.items ++ between) = sym c.give_back.ensures ∙ gone.items ∙ ap (λ r. recorded r between) c.taken_from-recording.ensures in
+    let kept : Some new ≡ Some (old.items ++ between) = sym c.give_back.ensures ∙ gone.items ∙ ap (λ r. with_items r between) c.taken_from-recording.ensures in
     let items : new ≡ old.items ++ between = same_Some new (old.items ++ between) kept in
     let all : items_at g cs m ≡ items_at g cs from ++ new =
     items_split g cs n m (omega (arith, gone.some)) ∙ ap (λ l. l ++ between) (ap (items_at g cs) (sym here) ∙ is.items) ∙ append_assoc (items_at g cs from) old.items between

@@ -1,8 +1,8 @@
 use Rattle.std.specs.Option.{option_or}
 use Rattle.std.proofs.Common.{◌+◌, cond, length, None, Some, sym, ap, ◌∙◌, subst}
 use Rattle.jvms_file.specs.Names.{same_text}
-use Rattle.heap.specs.Held.{AreStored}
-use Rattle.text_index.specs.Found.{found}
+use Rattle.heap.specs.Stored.{AreStored}
+use Rattle.text_index.specs.Lookup.{indexed_reference}
 use Rattle.heap.proofs.MakingLaws.{class_added}
 use Rattle.heap.proofs.heap.Heap.new_class_object.Goals as goal
 
@@ -12,5 +12,5 @@ invariant_of-self-in-Ok c =
     (class_added c.self.inside.program.now c.self.inside.objects.items c.self.inside.texts c.self.inside.class_objects c.put.new.self c.args.name.now c.in_ok-share.field-0
     c.self.invariant c.in_ok-share.ensures
     (λ q.
-    c.in-Ok.ensures.ok q ∙ ap (λ u. option_or (found c.self.inside.class_objects q) (cond (same_text u q) (Some (length c.as_slice.result.now + 1)) None)) c.as_slice-2.ensures
-    ∙ ap (λ l. option_or (found c.self.inside.class_objects q) (cond (same_text c.args.name.now q) (Some (length l + 1)) None)) c.as_slice.ensures.value))
+    c.in-Ok.ensures.ok q ∙ ap (λ u. option_or (indexed_reference c.self.inside.class_objects q) (cond (same_text u q) (Some (length c.as_slice.result.now + 1)) None)) c.as_slice-2.ensures
+    ∙ ap (λ l. option_or (indexed_reference c.self.inside.class_objects q) (cond (same_text c.args.name.now q) (Some (length l + 1)) None)) c.as_slice.ensures.value))

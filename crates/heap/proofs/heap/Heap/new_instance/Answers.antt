@@ -1,7 +1,7 @@
 use Rattle.std.proofs.Common.{◌≡◌, [], ◌∷◌, map, ap, ◌∙◌, subst, OnOk}
 use Rattle.jvms_machine.specs.State.{instance_fields}
 use Rattle.heap.specs.Objects.{with_new}
-use Rattle.heap.specs.Held.{name_at}
+use Rattle.heap.specs.Stored.{name_at}
 use Rattle.heap.proofs.MakingLaws.{first_shown}
 use Rattle.heap.proofs.heap.Heap.new_instance.Goals as goal
 

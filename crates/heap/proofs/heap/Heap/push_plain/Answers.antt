@@ -1,5 +1,5 @@
 use Rattle.std.proofs.Common.{sym, subst}
-use Rattle.heap.specs.Held.{IsKept, AreStored}
+use Rattle.heap.specs.Stored.{IsKept, AreStored}
 use Rattle.heap.proofs.MakingLaws.{plain_added}
 use Rattle.heap.proofs.heap.Heap.push_plain.Goals as goal
 

@@ -1,7 +1,7 @@
 use Rattle.std.proofs.Common.{refl, sym, ap, subst, IfSome, arith}
 use Rattle.jvms_machine.specs.Heap.{with_element}
 use Rattle.jvms_machine.specs.State.{object_at}
-use Rattle.heap.proofs.HeldLaws.{still_held, changed, suits_held, unchanged}
+use Rattle.heap.proofs.StoredLaws.{still_held, changed, suits_held, unchanged}
 use Rattle.heap.specs.Objects.{Suits}
 use Rattle.heap.proofs.heap.Heap.put_element.Goals as goal
 

@@ -1,6 +1,6 @@
 use Rattle.std.proofs.Common.{refl, ap, arith}
 use Rattle.heap.specs.Objects.{with_slot}
-use Rattle.heap.proofs.HeldLaws.{still_held, changed}
+use Rattle.heap.proofs.StoredLaws.{still_held, changed}
 use Rattle.heap.proofs.heap.Heap.put_field.Goals as goal
 
 pub invariant_of-self : goal.invariant_of-self

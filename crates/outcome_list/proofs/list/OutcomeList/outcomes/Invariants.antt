@@ -1,6 +1,6 @@
 -- The list is the outcomes before the index, followed by those that are still to be read.
 use Rattle.std.proofs.Common.{◌≡◌, ◌++◌, drop}
-use Rattle.outcome_list.specs.Held.{outcomes_by}
+use Rattle.outcome_list.specs.Stored.{outcomes_by}
 use Rattle.outcome_list.proofs.list.OutcomeList.outcomes.Given as goal
 
 abbrev pub invariant-loop-kind : goal.invariant-loop-kind

@@ -1,6 +1,6 @@
 use Rattle.std.proofs.Common.{ℕ, List, ap, ◌∙◌}
 use Rattle.schedule.specs.Schedules.{Schedule, Spells, Listed}
-use Rattle.schedule.specs.Choosers.{opened}
+use Rattle.schedule.specs.Choosers.{chooser_of_schedule}
 use Rattle.schedule.proofs.Spelling.{same_schedule, handed_on, is_syntax}
 use Rattle.schedule.proofs.chooser.Chooser.parse.Goals as goal
 
@@ -13,4 +13,4 @@ returns-in_err-rule-clause-syntax c =
 pub returns-clause-only : goal.returns-clause-only
 returns-clause-only c =
     let own = c.in_ok-rule.ensures.rule in
-    λ schedule spelled. own.2 ∙ ap opened (same_schedule c.args.text.now own.0 schedule own.1 spelled)
+    λ schedule spelled. own.2 ∙ ap chooser_of_schedule (same_schedule c.args.text.now own.0 schedule own.1 spelled)

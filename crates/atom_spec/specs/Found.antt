@@ -1,8 +1,0 @@
--- Defines look-up by text.
-use Rattle.std.specs.Prelude.{ℕ, List, [], ◌∷◌, Option, Some, None, if◌then◌else◌}
-use Rattle.jvms_file.specs.Names.{same_text}
-
--- Returns the value of the first entry with this text.
-abbrev pub found : {X : Type 0} → List (List ℕ × X) → List ℕ → Option X
-found [] text = None
-found (e ∷ es) text = if same_text text e.0 then Some e.1 else found es text
