@@ -32,7 +32,7 @@ fn chooser_of<'w, F: Files>(
 }
 
 /// Returns the specification that the words name, if they name one.
-fn spec_of<'w, F: Files>(
+pub(crate) fn spec_of<'w, F: Files>(
     alloc: Global,
     files: &mut F,
     name: Option<&'w str>,

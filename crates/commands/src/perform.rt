@@ -4,7 +4,7 @@ use crate::campaigns::perform_campaign;
 use crate::files::Files;
 use crate::limits::DEFAULT_LIMITS;
 use crate::needing::write_missing;
-use crate::parts::{RunParts, read_parts};
+use crate::parts::{RunParts, read_parts, spec_of};
 use crate::picturing::perform_picture;
 use crate::reading::{read_input, read_inputs, read_source, read_spec, read_text};
 use crate::refusal::Refusal;
