@@ -9,7 +9,7 @@ use Rattle.jvms_file.specs.declared.descriptor.FieldType.{FieldType}
 use Rattle.jvms_file.specs.declared.insn.ArrayKind.{ArrayKind}
 use Rattle.jvms_file.specs.declared.insn.ArrayKind.TheVariants as array_kind
 use Rattle.jvms_file.specs.declared.insn.Narrow.TheVariants as narrow
-use Rattle.jvms_file.specs.Numbers.{narrowing}
+use Rattle.jvms_file.specs.Numbers.{narrowed_int}
 use Rattle.jvms_machine.specs.declared.value.Value.{Value}
 use Rattle.jvms_machine.specs.declared.value.Value.TheVariants as value
 use Rattle.jvms_machine.specs.Arrays.{serves}
@@ -25,10 +25,10 @@ Holds k kept t = (serves k t ≡ true) × ((n : ℤ) → stored_as t (value.Int 
 -- The kind of stored elements determines the instruction and the narrowing.
 abbrev Tells : Kind → FieldType → Type 0
 Tells kind.Int t = Holds array_kind.Int (λ n. n) t
-Tells kind.Byte t = Holds array_kind.Byte (narrowing narrow.Byte) t
-Tells kind.Boolean t = Holds array_kind.Byte (narrowing narrow.Boolean) t
-Tells kind.Char t = Holds array_kind.Char (narrowing narrow.Char) t
-Tells kind.Short t = Holds array_kind.Short (narrowing narrow.Short) t
+Tells kind.Byte t = Holds array_kind.Byte (narrowed_int narrow.Byte) t
+Tells kind.Boolean t = Holds array_kind.Byte (narrowed_int narrow.Boolean) t
+Tells kind.Char t = Holds array_kind.Char (narrowed_int narrow.Char) t
+Tells kind.Short t = Holds array_kind.Short (narrowed_int narrow.Short) t
 Tells kind.Long t = serves array_kind.Long t ≡ true
 Tells kind.Reference t = serves array_kind.Reference t ≡ true
 Tells kind.Nothing t = Unit {0}
@@ -76,16 +76,16 @@ references_are_served t is = tells kind.Reference t is
 pub int_is_kept : (t : FieldType) (n : ℤ) → kind.Int ≡ kind_of t → stored_as t (value.Int n) ≡ value.Int n
 int_is_kept t n is = (tells kind.Int t is).1 n
 
-pub byte_is_kept : (t : FieldType) (n m : ℤ) → kind.Byte ≡ kind_of t → m ≡ narrowing narrow.Byte n → stored_as t (value.Int n) ≡ value.Int m
+pub byte_is_kept : (t : FieldType) (n m : ℤ) → kind.Byte ≡ kind_of t → m ≡ narrowed_int narrow.Byte n → stored_as t (value.Int n) ≡ value.Int m
 byte_is_kept t n m is same = subst (λ x. stored_as t (value.Int n) ≡ value.Int x) (sym same) ((tells kind.Byte t is).1 n)
 
-pub boolean_is_kept : (t : FieldType) (n m : ℤ) → kind.Boolean ≡ kind_of t → m ≡ narrowing narrow.Boolean n → stored_as t (value.Int n) ≡ value.Int m
+pub boolean_is_kept : (t : FieldType) (n m : ℤ) → kind.Boolean ≡ kind_of t → m ≡ narrowed_int narrow.Boolean n → stored_as t (value.Int n) ≡ value.Int m
 boolean_is_kept t n m is same = subst (λ x. stored_as t (value.Int n) ≡ value.Int x) (sym same) ((tells kind.Boolean t is).1 n)
 
-pub char_is_kept : (t : FieldType) (n m : ℤ) → kind.Char ≡ kind_of t → m ≡ narrowing narrow.Char n → stored_as t (value.Int n) ≡ value.Int m
+pub char_is_kept : (t : FieldType) (n m : ℤ) → kind.Char ≡ kind_of t → m ≡ narrowed_int narrow.Char n → stored_as t (value.Int n) ≡ value.Int m
 char_is_kept t n m is same = subst (λ x. stored_as t (value.Int n) ≡ value.Int x) (sym same) ((tells kind.Char t is).1 n)
 
-pub short_is_kept : (t : FieldType) (n m : ℤ) → kind.Short ≡ kind_of t → m ≡ narrowing narrow.Short n → stored_as t (value.Int n) ≡ value.Int m
+pub short_is_kept : (t : FieldType) (n m : ℤ) → kind.Short ≡ kind_of t → m ≡ narrowed_int narrow.Short n → stored_as t (value.Int n) ≡ value.Int m
 short_is_kept t n m is same = subst (λ x. stored_as t (value.Int n) ≡ value.Int x) (sym same) ((tells kind.Short t is).1 n)
 
 -- The loaded element, if the instruction serves it.

@@ -6,7 +6,7 @@ use Rattle.jvms_file.specs.declared.descriptor.Element.{Element}
 use Rattle.jvms_file.specs.declared.descriptor.Element.TheVariants as element
 use Rattle.jvms_file.specs.declared.descriptor.FieldType.{FieldType}
 use Rattle.jvms_file.specs.declared.insn.Narrow.TheVariants as narrow
-use Rattle.jvms_file.specs.Numbers.{narrowing}
+use Rattle.jvms_file.specs.Numbers.{narrowed_int}
 use Rattle.jvms_machine.specs.declared.value.Value.{Value}
 use Rattle.jvms_machine.specs.declared.value.Value.TheVariants as value
 use Rattle.array_elements.specs.declared.kind.Kind.{Kind}
@@ -37,10 +37,10 @@ first_of _ = value.Int (pos 0)
 -- A value can be an element of a kind: an int that narrowing doesn't change, a long, a reference, or null.
 abbrev pub IsOfKind : Kind → Value → Type 0
 IsOfKind kind.Int (value.Int n) = Unit {0}
-IsOfKind kind.Byte (value.Int n) = narrowing narrow.Byte n ≡ n
-IsOfKind kind.Boolean (value.Int n) = narrowing narrow.Boolean n ≡ n
-IsOfKind kind.Char (value.Int n) = narrowing narrow.Char n ≡ n
-IsOfKind kind.Short (value.Int n) = narrowing narrow.Short n ≡ n
+IsOfKind kind.Byte (value.Int n) = narrowed_int narrow.Byte n ≡ n
+IsOfKind kind.Boolean (value.Int n) = narrowed_int narrow.Boolean n ≡ n
+IsOfKind kind.Char (value.Int n) = narrowed_int narrow.Char n ≡ n
+IsOfKind kind.Short (value.Int n) = narrowed_int narrow.Short n ≡ n
 IsOfKind kind.Long (value.Long n) = Unit {0}
 IsOfKind kind.Reference value.Null = Unit {0}
 IsOfKind kind.Reference (value.Reference r) = 0 < r

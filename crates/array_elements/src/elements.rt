@@ -1,7 +1,7 @@
 //! The elements of arrays.
 
 ghost use Rattle.std.specs.Prelude.{◌≡◌, true, IfOk, IfSome, IsSome, IsTrue, Some, length, map, pos, replicate, slice_get, slice_set};
-ghost use Rattle.jvms_file.specs.Numbers.{narrowing};
+ghost use Rattle.jvms_file.specs.Numbers.{narrowed_int};
 ghost use Rattle.jvms_file.specs.declared.insn.Narrow.TheVariants as narrow;
 ghost use Rattle.jvms_file.specs.declared.descriptor.FieldType.{FieldType};
 ghost use Rattle.jvms_machine.specs.Arrays.{serves};
@@ -33,7 +33,7 @@ pub enum Elements {
 /// Returns a byte: the low eight bits of an int.
 #[inline(always)]
 fn byte(n: i32) -> i8
-    ensures { result ≡ narrowing narrow.Byte n }
+    ensures { result ≡ narrowed_int narrow.Byte n }
 {
     let low = (n.rem_euclid(1 << 8) as u8).cast_signed();
     low
@@ -42,7 +42,7 @@ fn byte(n: i32) -> i8
 /// Returns a short: the low sixteen bits of an int.
 #[inline(always)]
 fn short(n: i32) -> i16
-    ensures { result ≡ narrowing narrow.Short n }
+    ensures { result ≡ narrowed_int narrow.Short n }
 {
     let low = (n.rem_euclid(1 << 16) as u16).cast_signed();
     low
@@ -51,7 +51,7 @@ fn short(n: i32) -> i16
 /// Returns a char: the low sixteen bits of an int.
 #[inline(always)]
 fn unsigned_short(n: i32) -> u16
-    ensures { pos result ≡ narrowing narrow.Char n }
+    ensures { pos result ≡ narrowed_int narrow.Char n }
 {
     n.rem_euclid(1 << 16) as u16
 }
@@ -59,7 +59,7 @@ fn unsigned_short(n: i32) -> u16
 /// Returns a boolean: the lowest bit of an int.
 #[inline(always)]
 fn bit(n: i32) -> u8
-    ensures { pos result ≡ narrowing narrow.Boolean n }
+    ensures { pos result ≡ narrowed_int narrow.Boolean n }
 {
     n.rem_euclid(2) as u8
 }

@@ -17,7 +17,7 @@ use Rattle.atom_graph.specs.Checked.{IsChecker}
 use Rattle.atom_graph.specs.Checking.{Fed, state_of_fed}
 use Rattle.atom_graph.specs.Reduced.{IsReady, MayClose}
 use Rattle.atom_graph.specs.StoredTrace.{IsHappened, IsMarkedBy, IsSame, HasTraceState, thread_state_after, fed_of, ending_transaction, stay_of}
-use Rattle.atom_graph.specs.Watched.{IsIdle, IsLeft, IsOn, IsOnFrom, IsWatched}
+use Rattle.atom_graph.specs.Watched.{IsIdle, HasEnded, IsOn, IsOnFrom, IsWatched}
 use Rattle.atom_graph.proofs.Steps.{IsFair, enter_is, event_is, exit_is, trace_state_fair, trace_state_more}
 use Rattle.atom_graph.proofs.Suffices.{MeetByAccesses}
 use Rattle.atom_graph.proofs.Watching.{enter_watched, event_ready, event_watched, exit_ready, exit_watched, like_watched}
@@ -100,13 +100,13 @@ module _ (a : StoredTrace) (v : Watch) (is : IsChecker a v) where
       subst (λ o. MayClose o v.reduced.graph) (sym (over_is t))
       (exit_ready a.threads.lines w fair t v.reduced.graph (kept_of v.reduced.accesses) (subst (λ (o : Option Found). IsWatched w v.reduced o) none is.watched))
 
-  pub checker_exited : (b : StoredTrace) (u : Watch) (t : ℕ) (m : MethodKey) → IsLeft (ending_transaction a.threads.lines (thread_state_in a.threads.table t)) v u
+  pub checker_exited : (b : StoredTrace) (u : Watch) (t : ℕ) (m : MethodKey) → HasEnded (ending_transaction a.threads.lines (thread_state_in a.threads.table t)) v u
       → IsMarkedBy t (with_exit a.threads.lines (thread_state_in a.threads.table t)) (item.Exit t m) a b → IsChecker b u
   checker_exited b u t m left marked =
       checker_marked b u t (item.Exit t m) (with_exit a.threads.lines) (exit_is a.threads.lines w t m) marked
       (subst (λ (o : Option Found). IsWatched (with_thread_state t (with_exit a.threads.lines (w.threads t)) w) u.reduced o) (sym left.1)
       (exit_watched a.threads.lines w fair t v.found v.reduced u.reduced is.watched
-      (subst (λ o. IsLeft o v u) (over_is t) left).0))
+      (subst (λ o. HasEnded o v u) (over_is t) left).0))
 
   -- ---- An event
 

@@ -14,7 +14,7 @@ use Rattle.atom_graph.specs.Checked.{IsChecker}
 use Rattle.atom_graph.specs.Checking.{with_item}
 use Rattle.atom_graph.specs.Reduced.{IsReady, MayClose}
 use Rattle.atom_graph.specs.StoredTrace.{IsEntered, IsExited, IsHappened, IsSame, fed_of, ending_transaction, stay_of}
-use Rattle.atom_graph.specs.Watched.{IsLeft, IsOn}
+use Rattle.atom_graph.specs.Watched.{HasEnded, IsOn}
 use Rattle.atom_graph.proofs.Checked.{begun_few, checker_entered, checker_event, checker_exited, checker_same, events_ready, exits_ready, fed_is, idle}
 
 module _ (a a1 : StoredTrace) (v : Watch) (is : IsChecker a v) (same : IsSame a a1) where
@@ -36,9 +36,9 @@ module _ (a a1 : StoredTrace) (v : Watch) (is : IsChecker a v) (same : IsSame a 
   exit_may_close t over over_is none = subst (λ o. MayClose o v.reduced.graph) (sym over_is) (exits_ready a1 v prepared t none)
 
   pub exited_right : (b : StoredTrace) (u : Watch) (t : ℕ) (m : MethodKey) (i copy : Item) (over : Option ℕ) → i ≡ item.Exit t m → copy ≡ i
-      → over ≡ ending_transaction a1.threads.lines (thread_state_in a1.threads.table t) → IsLeft over v u → IsExited t copy a1 b → IsChecker b u
+      → over ≡ ending_transaction a1.threads.lines (thread_state_in a1.threads.table t) → HasEnded over v u → IsExited t copy a1 b → IsChecker b u
   exited_right b u t m i copy over exit copied over_is left marked =
-      checker_exited a1 v prepared b u t m (subst (λ o. IsLeft o v u) over_is left) (subst (λ j. IsExited t j a1 b) (copied ∙ exit) marked)
+      checker_exited a1 v prepared b u t m (subst (λ o. HasEnded o v u) over_is left) (subst (λ j. IsExited t j a1 b) (copied ∙ exit) marked)
 
   long : length a1.transactions.items ≡ length a.transactions.items
   long = ap length same.transactions

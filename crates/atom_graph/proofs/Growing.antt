@@ -9,7 +9,7 @@ use Rattle.velodrome.specs.Transactions.{Event, TraceState}
 use Rattle.velodrome.specs.Verdicts.{ArePairNumbers, IsShownCycle}
 use Rattle.atom_order.specs.declared.link.Link.{Link}
 use Rattle.atom_order.specs.Keeping.{IsKept, Leads}
-use Rattle.atom_order.specs.Shapes.{IsClosing, Shape, begun, into_in, is_empty, live_links, open_in, order_of}
+use Rattle.atom_order.specs.Shapes.{IsClosing, Shape, shape_after_begin, into_in, is_empty, live_links, open_in, order_of}
 use Rattle.atom_order.specs.Trails.{transactions_along}
 use Rattle.atom_order.proofs.Begun.{begun_kept, begun_leads, begun_leads_now, begun_open, begun_slots, live_link_is}
 use Rattle.atom_order.proofs.Closed.{closed_kept, closed_leads, closed_was_live}
@@ -72,7 +72,7 @@ module _ (meet : MeetByAccesses) (w v : TraceState) (f : Event) (old new : Reduc
   links = live_links f.transaction old.graph.live taken.links
 
   abbrev now : Shape
-  now = begun is_open links old.graph
+  now = shape_after_begin is_open links old.graph
 
   small : (x : ℕ) → IsIn x (s.dropped ++ s.live) → x ≤ w.transactions
   small x h = (all_in (λ m. (0 < m) × (m ≤ w.transactions)) (s.dropped ++ s.live) x g.keeps.counted.2 h).1

@@ -16,7 +16,7 @@ use Rattle.atom_graph.specs.declared.found.Found.{Found}
 use Rattle.atom_graph.specs.declared.reduced.Reduced.{Reduced}
 use Rattle.atom_graph.specs.Reduced.{IsLike, IsOverIn, IsReady, IsTaken, MayClose, StaysLive}
 use Rattle.atom_graph.specs.StoredTrace.{thread_state_after, ending_transaction, stay_of}
-use Rattle.atom_graph.specs.Watched.{IsGraphOf, IsLeftFrom, IsOnFrom, IsWatched}
+use Rattle.atom_graph.specs.Watched.{IsGraphOf, HasEndedFrom, IsOnFrom, IsWatched}
 use Rattle.atom_graph.proofs.Growing.{cycle_found, found_more, graph_begun, graph_closed, graph_linked, graph_same}
 use Rattle.atom_graph.proofs.Steps.{IsFair, IsOpenBy, by_open, open_by, open_is}
 use Rattle.atom_graph.proofs.Suffices.{MeetByAccesses}
@@ -155,7 +155,7 @@ module _ (lines : Specification) (w : TraceState) (fair : IsFair lines w) (t : �
       (opens_left lines w fair t left n is (ap (λ b. if b then (w.threads t).transaction else None) stays)) over.0 (subst (IsGraphOf w old.graph) (sym over.1) g)
 
   -- After the exit the search is right again.
-  pub exit_watched : (found : Option Found) (old new : Reduced) → IsWatched w old found → IsLeftFrom (ending_transaction lines (w.threads t)) found old new → IsWatched u new found
+  pub exit_watched : (found : Option Found) (old new : Reduced) → IsWatched w old found → HasEndedFrom (ending_transaction lines (w.threads t)) found old new → IsWatched u new found
   exit_watched None old new watched over = exit_graph (has_atomic lines (drop 1 (w.threads t).methods)) (w.threads t).transaction old new refl refl watched over
   exit_watched (Some f) old new watched over = watched
 

@@ -7,7 +7,7 @@ use Rattle.velodrome.specs.declared.verdict.Verdict.TheVariants as verdict
 use Rattle.atom_order.specs.declared.link.Link.{Link}
 use Rattle.atom_order.specs.declared.link.Closing.{Closing}
 use Rattle.atom_order.specs.Reaching.{is_among}
-use Rattle.atom_order.specs.Shapes.{ClosesCycle, IsClosing, IsLinking, IsUsable, Shape, begun, live_links}
+use Rattle.atom_order.specs.Shapes.{ClosesCycle, IsClosing, IsLinking, IsUsable, Shape, shape_after_begin, live_links}
 use Rattle.atom_order.specs.Trails.{pairs_along, transactions_along}
 use Rattle.accesses.specs.Accesses.{AreLinks, IsNoted}
 use Rattle.accesses.specs.Rooms.{kept_of}
@@ -23,7 +23,7 @@ pub record IsLike (old new : Reduced) : Type 0 where
 
 -- The graph has an event's links, and its transaction if the event is the first.
 abbrev pub IsGrown : Stay → ℕ → List Link → Shape → Shape → Type 0
-IsGrown (stay.Begins is_open) t links old new = (new ≡ begun is_open links old) × (length old.is_open ≡ length old.into)
+IsGrown (stay.Begins is_open) t links old new = (new ≡ shape_after_begin is_open links old) × (length old.is_open ≡ length old.into)
 IsGrown stay.KeepsGoing t links old new = IsLinking t links old new
 
 -- A transaction that continues is live.

@@ -48,10 +48,10 @@ IsOnFrom number t s i (Some f) found old new = found ≡ Some f
 abbrev pub IsOn : ℕ → ℕ → Stay → Item → Watch → Watch → Type 0
 IsOn number t s i old new = IsOnFrom number t s i old.found new.found old.reduced new.reduced
 
-abbrev pub IsLeftFrom : Option ℕ → Option Found → Reduced → Reduced → Type 0
-IsLeftFrom over None old new = IsOverIn over old new
-IsLeftFrom over (Some f) old new = Unit {0}
+abbrev pub HasEndedFrom : Option ℕ → Option Found → Reduced → Reduced → Type 0
+HasEndedFrom over None old new = IsOverIn over old new
+HasEndedFrom over (Some f) old new = Unit {0}
 
 -- A transaction has ended, or none has. After a cycle was found, nothing is done.
-abbrev pub IsLeft : Option ℕ → Watch → Watch → Type 0
-IsLeft over old new = IsLeftFrom over old.found old.reduced new.reduced × (new.found ≡ old.found)
+abbrev pub HasEnded : Option ℕ → Watch → Watch → Type 0
+HasEnded over old new = HasEndedFrom over old.found old.reduced new.reduced × (new.found ≡ old.found)

@@ -4,7 +4,7 @@ ghost use Rattle.std.specs.Prelude.{◌≡◌, [], None, IfOk, OnOk, OnErr};
 ghost use Rattle.atom_order.specs.Shapes.{no_transactions};
 ghost use Rattle.accesses.specs.Rooms.{kept_of};
 ghost use Rattle.atom_graph.specs.Reduced.{IsReady, MayClose};
-ghost use Rattle.atom_graph.specs.Watched.{IsIdle, IsLeft, IsOn};
+ghost use Rattle.atom_graph.specs.Watched.{IsIdle, HasEnded, IsOn};
 
 use crate::found::Found;
 use crate::reduced::Reduced;
@@ -64,7 +64,7 @@ impl Watch {
     /// Closes a transaction that ended, unless a cycle was found before. Without memory nothing changes.
     pub(crate) fn leave(&mut self, over: Option<u64>) -> Result<(), AllocError>
         requires { self.old.found ≡ None → MayClose over self.old.reduced.graph }
-        ensures ok { OnOk result (IsLeft over self.old self.new) }
+        ensures ok { OnOk result (HasEnded over self.old self.new) }
         ensures err { OnErr result (IsIdle self.old self.new) }
     {
         if self.found.is_none() {

@@ -10,7 +10,7 @@ use Rattle.velodrome.specs.Verdicts.{ArePairNumbers}
 use Rattle.atom_order.specs.declared.link.Link.{Link}
 use Rattle.atom_order.specs.Keeping.{Order, IsKept, Leads, IsKeptLive, IsReach, IsLeft, with_new, with_links, with_drop}
 use Rattle.atom_order.specs.Reaching.{is_among, LeadForward}
-use Rattle.atom_order.specs.Shapes.{Shape, order_of, open_in, into_in, begun, live_links, is_empty, IsUsable}
+use Rattle.atom_order.specs.Shapes.{Shape, order_of, open_in, into_in, shape_after_begin, live_links, is_empty, IsUsable}
 use Rattle.atom_order.proofs.Members.{in_left, in_right, in_cases, in_filter, filter_in, among_from_in, in_from_among}
 use Rattle.atom_order.proofs.Pairs.{Pairs, Differ, pairs_across}
 use Rattle.atom_order.proofs.Kept.{chosen, passed_by, begins, adds, drops, leads_on, leads_by_link, leads_more, links_lead_forward}
@@ -47,27 +47,27 @@ get_or_more {X} xs x d y = elim (cases_eq y (length xs)) [
 
 -- Which transactions are open after one begins, if each has a slot.
 pub begun_open : (is_open : Bool) (links : List Link) (s : Shape) → length s.is_open ≡ length s.into → (y : ℕ)
-    → open_in (begun is_open links s) y ≡ cond (y == length s.into) is_open (open_in s y)
+    → open_in (shape_after_begin is_open links s) y ≡ cond (y == length s.into) is_open (open_in s y)
 begun_open is_open links s fits y = get_or_more s.is_open is_open false y ∙ ap (λ m. cond (y == m) is_open (get_or s.is_open y false)) fits
 
-pub begun_into : (is_open : Bool) (links : List Link) (s : Shape) (y : ℕ) → into_in (begun is_open links s) y ≡ cond (y == length s.into) links (into_in s y)
+pub begun_into : (is_open : Bool) (links : List Link) (s : Shape) (y : ℕ) → into_in (shape_after_begin is_open links s) y ≡ cond (y == length s.into) links (into_in s y)
 begun_into is_open links s y = get_or_more s.into links [] y
 
-pub begun_slots : (is_open : Bool) (links : List Link) (s : Shape) (n : ℕ) → length s.into ≡ n + 1 → length (begun is_open links s).into ≡ n + 2
+pub begun_slots : (is_open : Bool) (links : List Link) (s : Shape) (n : ℕ) → length s.into ≡ n + 1 → length (shape_after_begin is_open links s).into ≡ n + 2
 begun_slots is_open links s n long = length_push s.into links ∙ (let e = long in omega arith)
 
-pub begun_fits : (is_open : Bool) (links : List Link) (s : Shape) → length s.is_open ≡ length s.into → length (begun is_open links s).is_open ≡ length (begun is_open links s).into
+pub begun_fits : (is_open : Bool) (links : List Link) (s : Shape) → length s.is_open ≡ length s.into → length (shape_after_begin is_open links s).is_open ≡ length (shape_after_begin is_open links s).into
 begun_fits is_open links s fits = length_push s.is_open is_open ∙ ap (λ m. m + 1) fits ∙ sym (length_push s.into links)
 
 -- Live transactions stay live, and only the new one may be added.
-pub begun_live : (is_open : Bool) (links : List Link) (s : Shape) (y : ℕ) → IsIn y s.live → IsIn y (begun is_open links s).live
+pub begun_live : (is_open : Bool) (links : List Link) (s : Shape) (y : ℕ) → IsIn y s.live → IsIn y (shape_after_begin is_open links s).live
 begun_live is_open links s y h = by (is_open || not (is_empty links))
   where
     by : (b : Bool) → IsIn y (cond b (s.live ++ length s.into ∷ []) s.live)
     by true = in_left y s.live (length s.into ∷ []) h
     by false = h
 
-pub begun_was_live : (is_open : Bool) (links : List Link) (s : Shape) (y : ℕ) → IsIn y (begun is_open links s).live → IsIn y s.live ⊎ (y ≡ length s.into)
+pub begun_was_live : (is_open : Bool) (links : List Link) (s : Shape) (y : ℕ) → IsIn y (shape_after_begin is_open links s).live → IsIn y s.live ⊎ (y ≡ length s.into)
 begun_was_live is_open links s y h = by (is_open || not (is_empty links)) h
   where
     last : IsIn y s.live ⊎ IsIn y (length s.into ∷ []) → IsIn y s.live ⊎ (y ≡ length s.into)
@@ -80,7 +80,7 @@ begun_was_live is_open links s y h = by (is_open || not (is_empty links)) h
     by false g = inl g
 
 -- The new one is live if it is open or has a link.
-pub new_is_live : (is_open : Bool) (links : List Link) (s : Shape) → (is_open ≡ true) ⊎ ((l : Link) × IsIn l links) → IsIn (length s.into) (begun is_open links s).live
+pub new_is_live : (is_open : Bool) (links : List Link) (s : Shape) → (is_open ≡ true) ⊎ ((l : Link) × IsIn l links) → IsIn (length s.into) (shape_after_begin is_open links s).live
 new_is_live true links s h = in_right (length s.into) s.live (length s.into ∷ []) (inl refl)
 new_is_live false [] s (inl is) = absurd (false≢true is)
 new_is_live false [] s (inr link) = absurd link.1
@@ -181,9 +181,9 @@ module _ (events : List Event) (n : ℕ) (s : Shape) (f : Event) (links : List L
 
   -- ---- It is open
 
-  begun_kept_open : IsKept (events ++ f ∷ []) (n + 1) (order_of (begun true links s))
+  begun_kept_open : IsKept (events ++ f ∷ []) (n + 1) (order_of (shape_after_begin true links s))
   begun_kept_open =
-      kept_alike now (n + 1) with_event (order_of (begun true links s))
+      kept_alike now (n + 1) with_event (order_of (shape_after_begin true links s))
       (record {
         dropped = refl;
         live = ap (λ m. s.live ++ m ∷ []) (sym slot);
@@ -291,30 +291,30 @@ module _ (events : List Event) (n : ℕ) (s : Shape) (f : Event) (links : List L
 
   -- ---- All three
 
-  by_links : (now_links : List Link) → now_links ≡ links → IsKept (events ++ f ∷ []) (n + 1) (order_of (begun false now_links s))
+  by_links : (now_links : List Link) → now_links ≡ links → IsKept (events ++ f ∷ []) (n + 1) (order_of (shape_after_begin false now_links s))
   by_links [] same = subst (λ v. IsKept now (n + 1) (record begun_dropped { into = λ y. get_or (s.into ++ v ∷ []) y [] })) (sym same) (begun_kept_dropped (sym same))
   by_links (l ∷ more) same =
       subst (λ v. IsKept now (n + 1) (record begun_held { into = λ y. get_or (s.into ++ v ∷ []) y [] })) (sym same) (begun_kept_held l (subst (IsIn l) same (inl refl)))
 
-  pub begun_kept : (is_open : Bool) → IsKept (events ++ f ∷ []) (n + 1) (order_of (begun is_open links s))
+  pub begun_kept : (is_open : Bool) → IsKept (events ++ f ∷ []) (n + 1) (order_of (shape_after_begin is_open links s))
   begun_kept true = begun_kept_open
   begun_kept false = by_links links refl
 
-  pub begun_usable : (is_open : Bool) → IsUsable (begun is_open links s)
-  begun_usable is_open = usable_of_kept now (n + 1) (begun is_open links s) (begun_kept is_open)
+  pub begun_usable : (is_open : Bool) → IsUsable (shape_after_begin is_open links s)
+  begun_usable is_open = usable_of_kept now (n + 1) (shape_after_begin is_open links s) (begun_kept is_open)
 
   -- What led before still leads.
-  pub begun_leads : (is_open : Bool) (a b : ℕ) → Leads s.live (into_in s) a b → Leads (begun is_open links s).live (into_in (begun is_open links s)) a b
+  pub begun_leads : (is_open : Bool) (a b : ℕ) → Leads s.live (into_in s) a b → Leads (shape_after_begin is_open links s).live (into_in (shape_after_begin is_open links s)) a b
   begun_leads is_open a b =
-      leads_more s.live (begun is_open links s).live (into_in s) (into_in (begun is_open links s)) a b (begun_live is_open links s)
+      leads_more s.live (shape_after_begin is_open links s).live (into_in s) (into_in (shape_after_begin is_open links s)) a b (begun_live is_open links s)
       (λ y l h g. subst (IsIn l) (sym (begun_into is_open links s y ∙ passed_by y (length s.into) links (into_in s y) (λ same. other y h (same ∙ sym slot)))) g)
 
   -- If an earlier event conflicts with the new one, its transaction leads to the new one's.
   pub begun_leads_now : (is_open : Bool) (e : Event) → IsIn e events → conflict e.item f.item ≡ true → IsIn e.transaction s.live
-      → Leads (begun is_open links s).live (into_in (begun is_open links s)) e.transaction f.transaction
+      → Leads (shape_after_begin is_open links s).live (into_in (shape_after_begin is_open links s)) e.transaction f.transaction
   begun_leads_now is_open e h against stands =
-      let live = (begun is_open links s).live in
-      let into = into_in (begun is_open links s) in
+      let live = (shape_after_begin is_open links s).live in
+      let into = into_in (shape_after_begin is_open links s) in
       let next = near e h against stands in
       let before = begun_leads is_open e.transaction next.0 next.1 in
       elim next.2 [

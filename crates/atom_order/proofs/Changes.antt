@@ -6,7 +6,7 @@ use Rattle.std.specs.List.{filter, list_any}
 use Rattle.velodrome.specs.Cycles.{IsIn}
 use Rattle.atom_order.specs.declared.link.Link.{Link}
 use Rattle.atom_order.specs.Keeping.{sides}
-use Rattle.atom_order.specs.Reaching.{is_among, marked, to_be_dropped}
+use Rattle.atom_order.specs.Reaching.{is_among, marked_transactions, to_be_dropped}
 use Rattle.atom_order.specs.Marking.{has_key, HasMarks}
 use Rattle.atom_order.specs.Shapes.{Shape, open_in, into_in, IsUsable, IsMoved, AreParts, IsClosing, IsLinking}
 use Rattle.atom_order.proofs.Members.{among_from_in, in_from_among, filter_in}
@@ -107,13 +107,13 @@ module _ (dropped : List ℕ) (opens : List Bool) (into : List (List Link)) (t :
 
   abbrev LinksUp : List ℕ → List ℕ → List ℕ → Type 0
   LinksUp front live region =
-      IsUsable (was live) → HasMarks keys (marked (λ y. y == t) at [] region) → ((l : Link) → IsIn l links → has_key keys l.from ≡ false)
+      IsUsable (was live) → HasMarks keys (marked_transactions (λ y. y == t) at [] region) → ((l : Link) → IsIn l links → has_key keys l.from ≡ false)
       → new.dropped ≡ dropped → new.live ≡ front ++ sides (λ x. has_key keys x) region → new.is_open ≡ opens → Gains → length new.into ≡ length into
       → IsLinking t links (was live) new
 
   links_split : (front behind : List ℕ) → LinksUp front (front ++ t ∷ behind) (t ∷ behind)
   links_split front behind usable has apart to_dropped to_live to_open gains slots =
-      let marks = marked (λ y. y == t) at [] (t ∷ behind) in
+      let marks = marked_transactions (λ y. y == t) at [] (t ∷ behind) in
       record {
         reaches = λ x. is_among x marks;
         reach = record {

@@ -6,7 +6,7 @@ use Rattle.std.specs.List.{list_any}
 use Rattle.std.specs.Ordering.{nat_cmp}
 use Rattle.std.specs.BTreeMap.{is_at}
 use Rattle.atom_order.specs.declared.link.Link.{Link}
-use Rattle.atom_order.specs.Reaching.{is_among, leads_from, marked, holds, to_be_dropped}
+use Rattle.atom_order.specs.Reaching.{is_among, leads_from, marked_transactions, holds, to_be_dropped}
 use Rattle.atom_order.specs.Marking.{has_key, HasMarks}
 
 same_key : (y q : ℕ) → is_at (nat_cmp y) q ≡ (q == y)
@@ -33,17 +33,17 @@ held_same lives keys gone (l ∷ links) has =
     ∙ ap (λ b. (lives l.from && not (is_among l.from gone)) || b) (held_same lives keys gone links has)
 
 module _ (starts : ℕ → Bool) (into : ℕ → List Link) where
-  marked_last : (marks xs : List ℕ) (y : ℕ) → marked starts into marks (xs ++ y ∷ [])
-      ≡ cond (starts y || leads_from (marked starts into marks xs) (into y)) (y ∷ marked starts into marks xs) (marked starts into marks xs)
+  marked_last : (marks xs : List ℕ) (y : ℕ) → marked_transactions starts into marks (xs ++ y ∷ [])
+      ≡ cond (starts y || leads_from (marked_transactions starts into marks xs) (into y)) (y ∷ marked_transactions starts into marks xs) (marked_transactions starts into marks xs)
   marked_last marks [] y = refl
   marked_last marks (x ∷ xs) y = marked_last (cond (starts x || leads_from marks (into x)) (x ∷ marks) marks) xs y
 
   abbrev so_far : List ℕ → ℕ → List ℕ
-  so_far region i = marked starts into [] (take i region)
+  so_far region i = marked_transactions starts into [] (take i region)
 
   more_so_far : (region : List ℕ) (i y : ℕ) → i < length region → get_or region i 0 ≡ y
       → so_far region (i + 1) ≡ cond (starts y || leads_from (so_far region i) (into y)) (y ∷ so_far region i) (so_far region i)
-  more_so_far region i y less is = ap (marked starts into []) (take_more region i 0 less ∙ ap (λ z. take i region ++ z ∷ []) is) ∙ marked_last [] (take i region) y
+  more_so_far region i y less is = ap (marked_transactions starts into []) (take_more region i 0 less ∙ ap (λ z. take i region ++ z ∷ []) is) ∙ marked_last [] (take i region) y
 
   pub marks_more : (region keys more : List ℕ) (i y : ℕ) → i < length region → get_or region i 0 ≡ y → HasMarks keys (so_far region i)
       → ((q : ℕ) → has_key more q ≡ cond (is_at (nat_cmp y) q) true (has_key keys q))

@@ -3,7 +3,7 @@ use Rattle.std.proofs.Common.{◌≡◌, ℕ, Bool, true, false, cond, ◌||◌,
 use Rattle.std.proofs.lemmas.Bool.{or_cases, false≢true}
 use Rattle.velodrome.specs.Cycles.{IsIn}
 use Rattle.atom_order.specs.declared.link.Link.{Link}
-use Rattle.atom_order.specs.Reaching.{is_among, leads_from, marked, LeadForward}
+use Rattle.atom_order.specs.Reaching.{is_among, leads_from, marked_transactions, LeadForward}
 use Rattle.atom_order.proofs.Members.{among_from_in, in_from_among}
 
 or_true : (a b : Bool) → b ≡ true → (a || b) ≡ true
@@ -39,12 +39,12 @@ module _ (starts : ℕ → Bool) (into : ℕ → List Link) where
   stays_by true marks x y h = inr h
   stays_by false marks x y h = h
 
-  pub stays : (marks ys : List ℕ) (x : ℕ) → IsIn x marks → IsIn x (marked starts into marks ys)
+  pub stays : (marks ys : List ℕ) (x : ℕ) → IsIn x marks → IsIn x (marked_transactions starts into marks ys)
   stays marks [] x h = h
   stays marks (y ∷ ys) x h = stays (more_marks marks y) ys x (stays_by (enters marks y) marks x y h)
 
   -- Whatever is marked was marked before, or is in the list.
-  pub marked_only : (marks ys : List ℕ) (x : ℕ) → IsIn x (marked starts into marks ys) → IsIn x marks ⊎ IsIn x ys
+  pub marked_only : (marks ys : List ℕ) (x : ℕ) → IsIn x (marked_transactions starts into marks ys) → IsIn x marks ⊎ IsIn x ys
   marked_only marks [] x h = inl h
   marked_only marks (y ∷ ys) x h =
       elim (marked_only (more_marks marks y) ys x h) [ inl l ↦ by (enters marks y) l | inr r ↦ inr (inr r) ]
@@ -54,22 +54,22 @@ module _ (starts : ℕ → Bool) (into : ℕ → List Link) where
       by true (inr h) = inl h
       by false h = inl h
 
-  enters_here : (marks ys : List ℕ) (y : ℕ) → enters marks y ≡ true → IsIn y (marked starts into marks (y ∷ ys))
+  enters_here : (marks ys : List ℕ) (y : ℕ) → enters marks y ≡ true → IsIn y (marked_transactions starts into marks (y ∷ ys))
   enters_here marks ys y is = stays (more_marks marks y) ys y (subst (λ b. IsIn y (cond b (y ∷ marks) marks)) (sym is) (inl refl))
 
-  pub starts_marked : (marks ys : List ℕ) (x : ℕ) → IsIn x ys → starts x ≡ true → IsIn x (marked starts into marks ys)
+  pub starts_marked : (marks ys : List ℕ) (x : ℕ) → IsIn x ys → starts x ≡ true → IsIn x (marked_transactions starts into marks ys)
   starts_marked marks [] x h is = absurd h
   starts_marked marks (y ∷ ys) x (inl e) is =
-      subst (λ v. IsIn v (marked starts into marks (y ∷ ys))) (sym e) (enters_here marks ys y (ap (λ b. b || leads_from marks (into y)) (ap starts (sym e) ∙ is)))
+      subst (λ v. IsIn v (marked_transactions starts into marks (y ∷ ys))) (sym e) (enters_here marks ys y (ap (λ b. b || leads_from marks (into y)) (ap starts (sym e) ∙ is)))
   starts_marked marks (y ∷ ys) x (inr h) is = starts_marked (more_marks marks y) ys x h is
 
   -- A link from a marked one leads into a marked one.
-  pub links_marked : (marks ys : List ℕ) (x : ℕ) (l : Link) → LeadForward into ys → IsIn x ys → IsIn l (into x) → IsIn l.from (marked starts into marks ys)
-      → IsIn x (marked starts into marks ys)
+  pub links_marked : (marks ys : List ℕ) (x : ℕ) (l : Link) → LeadForward into ys → IsIn x ys → IsIn l (into x) → IsIn l.from (marked_transactions starts into marks ys)
+      → IsIn x (marked_transactions starts into marks ys)
   links_marked marks [] x l forward h g m = absurd h
   links_marked marks (y ∷ ys) x l forward (inl e) g m =
       let here : IsIn l (into y) = subst (λ v. IsIn l (into v)) e g in
-      subst (λ v. IsIn v (marked starts into marks (y ∷ ys))) (sym e)
+      subst (λ v. IsIn v (marked_transactions starts into marks (y ∷ ys))) (sym e)
       (enters_here marks ys y
       (elim (marked_only marks (y ∷ ys) l.from m) [
         | inl before ↦ or_true (starts y) (leads_from marks (into y)) (leads_since marks (into y) l here before)
@@ -78,24 +78,24 @@ module _ (starts : ℕ → Bool) (into : ℕ → List Link) where
   links_marked marks (y ∷ ys) x l forward (inr h) g m = links_marked (more_marks marks y) ys x l forward.1 h g m
 
   -- The reason why a transaction is marked.
-  pub marked_since : (marks ys : List ℕ) (x : ℕ) → IsIn x (marked starts into marks ys)
-      → IsIn x marks ⊎ (IsIn x ys × ((starts x ≡ true) ⊎ LinkFrom (marked starts into marks ys) (into x)))
+  pub marked_since : (marks ys : List ℕ) (x : ℕ) → IsIn x (marked_transactions starts into marks ys)
+      → IsIn x marks ⊎ (IsIn x ys × ((starts x ≡ true) ⊎ LinkFrom (marked_transactions starts into marks ys) (into x)))
   marked_since marks [] x h = inl h
   marked_since marks (y ∷ ys) x h =
       elim (marked_since (more_marks marks y) ys x h) [ inl l ↦ by (enters marks y) refl l | inr r ↦ inr (inr r.0, r.1) ]
     where
       whole : List ℕ
-      whole = marked starts into marks (y ∷ ys)
+      whole = marked_transactions starts into marks (y ∷ ys)
 
-      since : enters marks y ≡ true → (starts y ≡ true) ⊎ LinkFrom (marked starts into marks (y ∷ ys)) (into y)
+      since : enters marks y ≡ true → (starts y ≡ true) ⊎ LinkFrom (marked_transactions starts into marks (y ∷ ys)) (into y)
       since is = elim (or_cases (starts y) (leads_from marks (into y)) is) [
         | inl s ↦ inl s
         | inr f ↦ let more = link_from marks (into y) f in inr (more.0, more.1, stays marks (y ∷ ys) more.0.from more.2)
       ]
 
       by : (b : Bool) → enters marks y ≡ b → IsIn x (cond b (y ∷ marks) marks)
-          → IsIn x marks ⊎ (IsIn x (y ∷ ys) × ((starts x ≡ true) ⊎ LinkFrom (marked starts into marks (y ∷ ys)) (into x)))
+          → IsIn x marks ⊎ (IsIn x (y ∷ ys) × ((starts x ≡ true) ⊎ LinkFrom (marked_transactions starts into marks (y ∷ ys)) (into x)))
       by true is (inl e) =
-          inr (inl e, subst (λ v. (starts v ≡ true) ⊎ LinkFrom (marked starts into marks (y ∷ ys)) (into v)) (sym e) (since is))
+          inr (inl e, subst (λ v. (starts v ≡ true) ⊎ LinkFrom (marked_transactions starts into marks (y ∷ ys)) (into v)) (sym e) (since is))
       by true is (inr g) = inl g
       by false is g = inl g

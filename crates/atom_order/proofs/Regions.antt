@@ -6,7 +6,7 @@ use Rattle.std.specs.List.{filter}
 use Rattle.velodrome.specs.Cycles.{IsIn}
 use Rattle.atom_order.specs.declared.link.Link.{Link}
 use Rattle.atom_order.specs.Keeping.{IsClosed, sides, IsKeptLive, IsLeft}
-use Rattle.atom_order.specs.Reaching.{is_among, marked, to_be_dropped, LeadForward}
+use Rattle.atom_order.specs.Reaching.{is_among, marked_transactions, to_be_dropped, LeadForward}
 use Rattle.atom_order.proofs.Members.{in_left, in_right, in_cases, among_from_in, in_from_among}
 use Rattle.atom_order.proofs.Pairs.{Pairs, Differ, pairs_across}
 use Rattle.atom_order.proofs.Marks.{starts_marked, links_marked, marked_only}
@@ -51,7 +51,7 @@ module _ (into : ℕ → List Link) (front : List ℕ) (t : ℕ) (behind : List 
   region = t ∷ behind
 
   abbrev marks : List ℕ
-  marks = marked (λ y. y == t) into [] region
+  marks = marked_transactions (λ y. y == t) into [] region
 
   abbrev P : ℕ → Bool
   P x = is_among x marks
@@ -85,8 +85,8 @@ module _ (into : ℕ → List Link) (front : List ℕ) (t : ℕ) (behind : List 
       ∙ ap (λ l. (front ++ filter (λ x. not (P x)) region) ++ l) (two ∙ ap (λ l. l ++ filter P region) four)
       ∙ append_assoc front (filter (λ x. not (P x)) region) (filter P region)
     where
-      outside : (x : ℕ) → IsIn x front → is_among x (marked (λ y. y == t) into [] (t ∷ behind)) ≡ false
-      outside x h = elim (cases_Bool (is_among x (marked (λ y. y == t) into [] (t ∷ behind)))) [
+      outside : (x : ℕ) → IsIn x front → is_among x (marked_transactions (λ y. y == t) into [] (t ∷ behind)) ≡ false
+      outside x h = elim (cases_Bool (is_among x (marked_transactions (λ y. y == t) into [] (t ∷ behind)))) [
         | inl is ↦ absurd (eqb-false x x (pairs_across Differ front (t ∷ behind) apart x x h (in_region x is)) refl)
         | inr is ↦ is
       ]

@@ -11,7 +11,7 @@ use Rattle.velodrome.specs.Cycles.{IsIn}
 use Rattle.atom_order.specs.declared.distances.Near.{Near}
 use Rattle.atom_order.specs.declared.link.Link.{Link}
 use Rattle.atom_order.specs.Distances.{IsDistance, distance_in, AreDistances, IsNearest, AreFar, IsNext}
-use Rattle.atom_order.specs.Reaching.{leads_from, marked, LeadForward}
+use Rattle.atom_order.specs.Reaching.{leads_from, marked_transactions, LeadForward}
 use Rattle.atom_order.specs.Marking.{has_key, HasMarks}
 use Rattle.atom_order.specs.Trails.{IsTrail}
 use Rattle.atom_order.proofs.Members.{in_right, in_cases}
@@ -27,7 +27,7 @@ module _ (live : List ℕ) (into : ℕ → List Link) (t : ℕ) where
 
   -- Links lead back from each marked one.
   pub marked_trail : (marks ys : List ℕ) → ((x : ℕ) → IsIn x marks → HasTrail x) → ((x : ℕ) → IsIn x ys → IsIn x live)
-      → (x : ℕ) → IsIn x (marked (λ y. y == t) into marks ys) → HasTrail x
+      → (x : ℕ) → IsIn x (marked_transactions (λ y. y == t) into marks ys) → HasTrail x
   marked_trail marks [] each lives x h = each x h
   marked_trail marks (y ∷ ys) each lives x h =
       marked_trail (cond ((y == t) || leads_from marks (into y)) (y ∷ marks) marks) ys (by ((y == t) || leads_from marks (into y)) refl) (λ z g. lives z (inr g)) x h
@@ -188,10 +188,10 @@ module _ (live : List ℕ) (into : ℕ → List Link) (place t : ℕ) (less : pl
   }
 
   -- A link from a marked transaction closes a cycle.
-  pub marked_closes : (keys : List ℕ) (links : List Link) → HasMarks keys (marked (λ y. y == t) into [] region) → list_any (λ (l : Link). has_key keys l.from) links ≡ true
+  pub marked_closes : (keys : List ℕ) (links : List Link) → HasMarks keys (marked_transactions (λ y. y == t) into [] region) → list_any (λ (l : Link). has_key keys l.from) links ≡ true
       → ((l : Link) (trail : List Link) → IsIn l links → IsTrail live into t l.from trail → ⊥) → ⊥
   marked_closes keys links has some none =
-      let marks = marked (λ y. y == t) into [] region in
+      let marks = marked_transactions (λ y. y == t) into [] region in
       let link = link_from marks links (sym (led_same keys marks links has) ∙ some) in
       let way = marked_trail live into t [] region (λ x h. absurd h) region_live link.0.from link.2 in
       none link.0 way.0 link.1 way.1

@@ -14,10 +14,10 @@ leads_from marks (l ∷ links) = is_among l.from marks || leads_from marks links
 
 -- Returns the marked transactions of a list, latest first: those that are a start, and those with a link from a marked
 -- one.
-abbrev pub marked : (ℕ → Bool) → (ℕ → List Link) → List ℕ → List ℕ → List ℕ
-marked starts into marks [] = marks
-marked starts into marks (y ∷ ys) =
-    marked starts into (if starts y || leads_from marks (into y) then y ∷ marks else marks) ys
+abbrev pub marked_transactions : (ℕ → Bool) → (ℕ → List Link) → List ℕ → List ℕ → List ℕ
+marked_transactions starts into marks [] = marks
+marked_transactions starts into marks (y ∷ ys) =
+    marked_transactions starts into (if starts y || leads_from marks (into y) then y ∷ marks else marks) ys
 
 -- No link leads into a transaction from itself or a later one.
 abbrev pub LeadForward : (ℕ → List Link) → List ℕ → Type 0

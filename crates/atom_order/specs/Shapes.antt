@@ -5,7 +5,7 @@ use Rattle.velodrome.specs.Cycles.{IsIn}
 use Rattle.atom_order.specs.declared.link.Link.{Link}
 use Rattle.atom_order.specs.declared.link.Closing.{Closing}
 use Rattle.atom_order.specs.Keeping.{Order, sides, IsKeptLive, IsReach, IsLeft}
-use Rattle.atom_order.specs.Reaching.{is_among, marked, to_be_dropped, LeadForward}
+use Rattle.atom_order.specs.Reaching.{is_among, marked_transactions, to_be_dropped, LeadForward}
 use Rattle.atom_order.specs.Marking.{has_key, HasMarks}
 use Rattle.atom_order.specs.Trails.{IsTrail}
 
@@ -51,8 +51,8 @@ is_empty [] = true
 is_empty (l ∷ links) = false
 
 -- Returns the graph after a transaction begins with links. If it is closed and has no links, it is dropped immediately.
-abbrev pub begun : Bool → List Link → Shape → Shape
-begun is_open links s = record {
+abbrev pub shape_after_begin : Bool → List Link → Shape → Shape
+shape_after_begin is_open links s = record {
   dropped = cond (is_open || not (is_empty links)) s.dropped (s.dropped ++ length s.into ∷ []);
   live = cond (is_open || not (is_empty links)) (s.live ++ length s.into ∷ []) s.live;
   is_open = s.is_open ++ is_open ∷ [];
@@ -107,6 +107,6 @@ ClosesNone t links s = (l : Link) (trail : List Link) → IsIn l links → IsTra
 -- The live transactions from a place on, with those that t reaches moved after the others.
 pub record ArePushedBack (t place : ℕ) (links : List Link) (s : Shape) (numbers : List ℕ) : Type 0 where
   pub keys : List ℕ
-  pub has : HasMarks keys (marked (λ y. y == t) (into_in s) [] (drop place s.live))
+  pub has : HasMarks keys (marked_transactions (λ y. y == t) (into_in s) [] (drop place s.live))
   pub apart : (l : Link) → IsIn l links → has_key keys l.from ≡ false
   pub are : numbers ≡ sides (λ x. has_key keys x) (drop place s.live)

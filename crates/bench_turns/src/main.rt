@@ -91,13 +91,33 @@ fn turns_of(alloc: Global, machine: &mut Machine<'_>) -> Option<usize> {
     Some(turns)
 }
 
+/// Returns the number of turns from an entry on, and the result of its method, if there is memory.
+fn counted_from(
+    alloc: Global,
+    program: &Program,
+    entry: &Entry,
+) -> Option<(usize, Option<Value>)> {
+    let mut machine = Machine::new(alloc, program, LIMITS, entry).ok()?;
+    let turns = turns_of(alloc, &mut machine);
+    let result = machine.result();
+    drop(machine);
+    Some((turns?, result))
+}
+
+/// Returns the number of turns of the program's method with a number of rounds, and its result, if there is memory.
+fn counted_of(alloc: Global, program: &Program, rounds: i32) -> Option<(usize, Option<Value>)> {
+    let entry = entry_of(alloc, rounds)?;
+    let counted = counted_from(alloc, program, &entry);
+    drop(entry);
+    counted
+}
+
 /// Returns the number of turns of the method with a number of rounds, and its result, if there is memory.
 fn counted(alloc: Global, rounds: i32) -> Option<(usize, Option<Value>)> {
     let program = nested_loops(alloc)?;
-    let entry = entry_of(alloc, rounds)?;
-    let mut machine = Machine::new(alloc, &program, LIMITS, &entry).ok()?;
-    let turns = turns_of(alloc, &mut machine)?;
-    Some((turns, machine.result()))
+    let counted = counted_of(alloc, &program, rounds);
+    drop(program);
+    counted
 }
 
 /// Returns the rounds of the first word.

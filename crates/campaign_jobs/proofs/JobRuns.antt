@@ -5,7 +5,7 @@ use Rattle.jvms_file.specs.Results.{◌>>=◌}
 use Rattle.jvms_program.specs.declared.program.Class.{Class}
 use Rattle.jvms_machine.specs.Opening.{StartFault, start_of_entry}
 use Rattle.jvms_machine.specs.Start.{Start}
-use Rattle.machine.specs.Started.{opened as opened_machine}
+use Rattle.machine.specs.Started.{opened_machine}
 use Rattle.schedule.specs.Choosers.{Chooser, chooser_of_schedule}
 use Rattle.schedule.specs.Schedules.{Seeded}
 use Rattle.program_runs.specs.Shown.{Shown, view_of_program, view_of_choices}

@@ -4,7 +4,7 @@ use Rattle.jvms_file.specs.Results.{◌>>=◌}
 use Rattle.jvms_program.specs.declared.program.Class.{Class}
 use Rattle.jvms_machine.specs.Opening.{StartFault, start_of_entry}
 use Rattle.jvms_machine.specs.Start.{Start}
-use Rattle.machine.specs.Started.{opened}
+use Rattle.machine.specs.Started.{opened_machine}
 use Rattle.schedule.specs.Choosers.{generator_of}
 use Rattle.velodrome.specs.Cycles.{AreAtomic, IsCycle}
 use Rattle.velodrome.specs.Rearrangements.{IsRearrangement, IsSerial}
@@ -21,7 +21,7 @@ use Rattle.campaign_jobs.specs.Plans.{stream_of}
 -- plan's seed as its state. Its stream is the job's number, counted from the plan's first stream.
 abbrev pub job_from : List Class → Plan → ℕ → Start → Shown
 job_from program plan number start =
-    let m = opened program plan.limits start in view_of_choices m (job_choices plan.most (generator_of plan.seed (stream_of plan number)) m)
+    let m = opened_machine program plan.limits start in view_of_choices m (job_choices plan.most (generator_of plan.seed (stream_of plan number)) m)
 
 -- Returns what the run of a job shows, or why no machine is made for it.
 unfoldable pub job_shown : List Class → Plan → ℕ → Result Shown StartFault

@@ -8,7 +8,7 @@ use Rattle.jvms_program.specs.Program.{class_named, class_number}
 use Rattle.jvms_program.specs.Resolution.{ancestry, first_in, supers_of}
 use Rattle.classes.specs.Hierarchy.{IsHierarchyOf, rank, super_numbers}
 use Rattle.classes.specs.Marks.{is_marked}
-use Rattle.classes.specs.Places.{class_place, placed}
+use Rattle.classes.specs.Places.{class_place, match_with_number}
 use Rattle.classes.specs.Searches.{AreUseful, IsClosed}
 use Rattle.classes.proofs.HierarchyLaws.{all_both, lower, number_within, unfolds}
 use Rattle.classes.proofs.PlaceLaws.{named_at, place_is}
@@ -24,7 +24,7 @@ begun program look class = record { goes = λ name number. (name, number, refl) 
 
 module _ (program : List Class) (rows : List (List ℕ)) (ranks order : List ℕ) (h : IsHierarchyOf program rows ranks order) (gives : ℕ → Class → Option (ℕ × ℕ)) where
   abbrev look : Class → Option (ℕ × ℕ)
-  look = placed program gives
+  look = match_with_number program gives
 
   -- The match in the class of a number that is there by a name.
   given : (name : List ℕ) (at : ℕ) (c : Class) → class_number program name ≡ Some at → slice_get program at ≡ Some c → look c ≡ gives at c

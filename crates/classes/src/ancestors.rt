@@ -11,7 +11,7 @@ ghost use Rattle.jvms_program.specs.Program.{class_number};
 ghost use Rattle.jvms_program.specs.Resolution.{ancestry, chain, first_in};
 ghost use Rattle.classes.specs.Hierarchy.{numbers_of, super_numbers, to_list};
 ghost use Rattle.classes.specs.Marks.{is_marked};
-ghost use Rattle.classes.specs.Places.{placed};
+ghost use Rattle.classes.specs.Places.{match_with_number};
 ghost use Rattle.classes.specs.Searches.{AreAbove, AreUseful, IsClosed};
 ghost use Rattle.classes.specs.Starts.{classes_from, name_of};
 
@@ -75,7 +75,7 @@ fn mark_useful<L: Look>(
     requires reached { AreAbove ranked.now.classes.now ranked.now.ranks.now class reached.now }
     requires none { (n : ℕ) → is_marked useful.old n ≡ false }
     ensures { AreUseful ranked.now.classes.now
-        (placed ranked.now.classes.now (L.gives look.now)) reached.now useful.new }
+        (match_with_number ranked.now.classes.now (L.gives look.now)) reached.now useful.new }
 {
     for place in 0..rank(ranked.ranks, class) + 1 {
         let at = ranked.order[place];
@@ -98,9 +98,9 @@ fn first_above<L: Look>(
     requires itself { is_marked reached.now class ≡ true }
     requires closed { IsClosed ranked.now.classes.now reached.now }
     requires useful { AreUseful ranked.now.classes.now
-        (placed ranked.now.classes.now (L.gives look.now)) reached.now useful.now }
+        (match_with_number ranked.now.classes.now (L.gives look.now)) reached.now useful.now }
     ensures { (name : List ℕ) → class_number ranked.now.classes.now name ≡ Some class
-        → result ≡ first_in (placed ranked.now.classes.now (L.gives look.now))
+        → result ≡ first_in (match_with_number ranked.now.classes.now (L.gives look.now))
         (ancestry ranked.now.classes.now name) }
 {
     let mut at = class;
@@ -126,8 +126,8 @@ fn first_of_names<L: Look>(
     requires reached { list_all (is_marked reached.now) (numbers_of program.now names.now) ≡ true }
     requires closed { IsClosed program.now reached.now }
     requires useful { AreUseful program.now
-        (placed program.now (L.gives look.now)) reached.now useful.now }
-    ensures { result ≡ first_in (placed program.now (L.gives look.now))
+        (match_with_number program.now (L.gives look.now)) reached.now useful.now }
+    ensures { result ≡ first_in (match_with_number program.now (L.gives look.now))
         (flat_map (ancestry program.now) names.now) }
 {
     for name in names {
@@ -156,7 +156,7 @@ fn mark_for<L: Look>(
     ensures itself { is_marked reached.new class ≡ true }
     ensures closed { IsClosed program.now reached.new }
     ensures useful { AreUseful program.now
-        (placed program.now (L.gives look.now)) reached.new useful.new }
+        (match_with_number program.now (L.gives look.now)) reached.new useful.new }
 {
     let ranked = program.ranked();
     mark_above(&ranked, class, reached);
@@ -176,8 +176,8 @@ fn first_along<L: Look>(
         (to_list (class_number program.now name.now)) ≡ true }
     requires closed { IsClosed program.now reached.now }
     requires useful { AreUseful program.now
-        (placed program.now (L.gives look.now)) reached.now useful.now }
-    ensures { result ≡ first_in (placed program.now (L.gives look.now)) (flat_map
+        (match_with_number program.now (L.gives look.now)) reached.now useful.now }
+    ensures { result ≡ first_in (match_with_number program.now (L.gives look.now)) (flat_map
         (λ c. flat_map (ancestry program.now) c.interfaces) (chain program.now name.now)) }
 {
     let mut left = program.classes().len();
@@ -233,7 +233,8 @@ fn first_from_with<L: Look>(
     requires none_reached { (n : ℕ) → is_marked reached.old n ≡ false }
     requires none_useful { (n : ℕ) → is_marked useful.old n ≡ false }
     ensures { result
-        ≡ first_in (placed program.now (L.gives look.now)) (classes_from program.now start.entry) }
+        ≡ first_in (match_with_number program.now (L.gives look.now))
+        (classes_from program.now start.entry) }
 {
     let Some((number, class)) = numbered(program, name_of(start)) else {
         return None;
@@ -252,7 +253,8 @@ fn first_from_with<L: Look>(
 fn first_from_few<L: Look>(program: &Classes, start: Start<'_>, look: &L) -> Option<(usize, usize)>
     requires { length program.now ≤ 64 * FEW_WORDS }
     ensures { result
-        ≡ first_in (placed program.now (L.gives look.now)) (classes_from program.now start.entry) }
+        ≡ first_in (match_with_number program.now (L.gives look.now))
+        (classes_from program.now start.entry) }
 {
     let mut reached = [0; FEW_WORDS];
     let mut useful = [0; FEW_WORDS];
@@ -264,7 +266,8 @@ fn first_from_few<L: Look>(program: &Classes, start: Start<'_>, look: &L) -> Opt
 fn first_from_all<L: Look>(program: &Classes, start: Start<'_>, look: &L) -> Option<(usize, usize)>
     requires { length program.now ≤ 64 * ALL_WORDS }
     ensures { result
-        ≡ first_in (placed program.now (L.gives look.now)) (classes_from program.now start.entry) }
+        ≡ first_in (match_with_number program.now (L.gives look.now))
+        (classes_from program.now start.entry) }
 {
     let mut reached = [0; ALL_WORDS];
     let mut useful = [0; ALL_WORDS];
@@ -278,7 +281,8 @@ pub(crate) fn first_from<L: Look>(
     look: &L,
 ) -> Option<(usize, usize)>
     ensures { result
-        ≡ first_in (placed program.now (L.gives look.now)) (classes_from program.now start.entry) }
+        ≡ first_in (match_with_number program.now (L.gives look.now))
+        (classes_from program.now start.entry) }
 {
     program.few_classes_invariant();
     if program.classes().len() <= 64 * FEW_WORDS {
@@ -295,7 +299,8 @@ pub(crate) fn first_in_ancestry<L: Look>(
     look: &L,
 ) -> Option<(usize, usize)>
     ensures { result
-        ≡ first_in (placed program.now (L.gives look.now)) (ancestry program.now name.now) }
+        ≡ first_in (match_with_number program.now (L.gives look.now))
+        (ancestry program.now name.now) }
 {
     let Some((number, class)) = numbered(program, name) else {
         return None;

@@ -2,7 +2,7 @@
 
 ghost use Rattle.std.specs.Prelude.{◌≡◌};
 ghost use Rattle.jvms_program.specs.Resolution.{class_method_order, interface_method_order, first_in};
-ghost use Rattle.classes.specs.Places.{placed};
+ghost use Rattle.classes.specs.Places.{match_with_number};
 
 use crate::ancestors::{Start, first_from};
 use crate::list::Classes;
@@ -17,7 +17,7 @@ pub(crate) fn first_for_class<L: Look>(
     name: &[u16],
     look: &L,
 ) -> Option<(usize, usize)>
-    ensures { result ≡ first_in (placed program.now (L.gives look.now))
+    ensures { result ≡ first_in (match_with_number program.now (L.gives look.now))
         (class_method_order program.now name.now) }
 {
     if let Some(found) = first_up(program, name, look) {
@@ -32,7 +32,7 @@ pub(crate) fn first_for_interface<L: Look>(
     name: &[u16],
     look: &L,
 ) -> Option<(usize, usize)>
-    ensures { result ≡ first_in (placed program.now (L.gives look.now))
+    ensures { result ≡ first_in (match_with_number program.now (L.gives look.now))
         (interface_method_order program.now name.now) }
 {
     let (number, interface) = numbered(program, name)?;

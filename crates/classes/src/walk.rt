@@ -3,7 +3,7 @@
 ghost use Rattle.std.specs.Prelude.{◌≡◌, ℕ, Option};
 ghost use Rattle.jvms_program.specs.declared.program.Class.{Class};
 ghost use Rattle.jvms_program.specs.Resolution.{chain, first_in};
-ghost use Rattle.classes.specs.Places.{placed};
+ghost use Rattle.classes.specs.Places.{match_with_number};
 
 use crate::chain::Chain;
 use crate::list::Classes;
@@ -21,7 +21,7 @@ pub(crate) trait Look {
 /// Returns the first match in a class, its superclass, and so on.
 pub(crate) fn first_up<L: Look>(program: &Classes, name: &[u16], look: &L) -> Option<(usize, usize)>
     ensures { result
-        ≡ first_in (placed program.now (L.gives look.now)) (chain program.now name.now) }
+        ≡ first_in (match_with_number program.now (L.gives look.now)) (chain program.now name.now) }
 {
     let mut up = Chain::of(program, name);
     while let Some((number, class)) = up.next_class() {

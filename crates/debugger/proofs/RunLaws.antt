@@ -7,7 +7,7 @@ use Rattle.std.specs.Option.{unwrap_or}
 use Rattle.jvms_machine.specs.declared.machine.Outcome.{Outcome}
 use Rattle.jvms_machine.specs.declared.trace.Item.{Item}
 use Rattle.jvms_machine.specs.Opening.{opening}
-use Rattle.jvms_machine.specs.Run.{RunResult, joined, run_from, run}
+use Rattle.jvms_machine.specs.Run.{RunResult, joined_results, run_from, run}
 use Rattle.jvms_machine.proofs.RunLaws.{run_append}
 use Rattle.machine.specs.Machine.{Machine, with_state}
 use Rattle.machine.specs.Runs.{run_of}
@@ -24,7 +24,7 @@ result_at g cs n = run g.program g.limits g.start (take n cs)
 
 -- ---- More choices
 
-result_more : (g : Setting) (cs ts : List ℕ) (n m : ℕ) → take m cs ≡ take n cs ++ ts → result_at g cs m ≡ joined (result_at g cs n) (run_of (machine_at g cs n) ts)
+result_more : (g : Setting) (cs ts : List ℕ) (n m : ℕ) → take m cs ≡ take n cs ++ ts → result_at g cs m ≡ joined_results (result_at g cs n) (run_of (machine_at g cs n) ts)
 unfolding state_after
 result_more g cs ts n m is = ap (run g.program g.limits g.start) is ∙ run_append g.program g.limits g.start (opening g.program) (take n cs) ts
 

@@ -2,7 +2,7 @@
 
 ghost use Rattle.std.specs.Prelude.{◌≡◌, ◌+◌, ◌/◌, ◌≤◌, ◌∷◌, [], IfErr, IfOk, OnErr};
 ghost use Rattle.std.specs.Vec.{vec_capacity};
-ghost use Rattle.machine.specs.Started.{opened};
+ghost use Rattle.machine.specs.Started.{opened_machine};
 ghost use Rattle.debugger.specs.Commands.{Did, IsRefused};
 ghost use Rattle.debugger.specs.Marks.{IsSpacing};
 ghost use Rattle.debugger.specs.Sessions.{IsBegun};
@@ -60,7 +60,7 @@ fn timeline_of<'p>(
     machine: Machine<'p>,
     choices: Vec<ThreadId>,
 ) -> Result<Timeline<'p>, AllocError>
-    requires { machine ≡ opened machine.program machine.limits machine.start }
+    requires { machine ≡ opened_machine machine.program machine.limits machine.start }
     ensures timeline { IfOk result (λ t. IsTimeline t) }
     ensures extent { IfOk result (λ t. extent t
         ≡ opening_extent (setting_of machine.entry) choices.items) }

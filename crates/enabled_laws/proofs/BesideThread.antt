@@ -3,7 +3,7 @@ use Rattle.enabled_laws.proofs.Heaps.{AreSized, Extends, extends_appended, exten
 use Rattle.enabled_laws.proofs.KnownEffects.{IsKnownEffect}
 use Rattle.jvms_file.specs.Descriptors.{field_type, units_of}
 use Rattle.jvms_machine.proofs.HeapGrowth.{Becomes}
-use Rattle.jvms_machine.specs.Actions.{affected, put_field, put_static, with_class_constants, with_exception, with_lock, with_unlock}
+use Rattle.jvms_machine.specs.Actions.{after_effect, put_field, put_static, with_class_constants, with_exception, with_lock, with_unlock}
 use Rattle.jvms_machine.specs.Fields.{fields_of}
 use Rattle.jvms_machine.specs.Heap.{with_element, with_field, with_object, with_value}
 use Rattle.jvms_machine.specs.Places.{value_size}
@@ -100,7 +100,7 @@ abbrev pub starts_none : Effect (List ℕ) → Bool
 starts_none (effect.Starts r u) = false
 starts_none _ = true
 
-pub effect_beside : (program : List Class) (s : State) (t : ℕ) (operands : List Value) (what : Effect (List ℕ)) → starts_none what ≡ true → IsKnownEffect program s what → IsBeside s (affected program s t operands what)
+pub effect_beside : (program : List Class) (s : State) (t : ℕ) (operands : List Value) (what : Effect (List ℕ)) → starts_none what ≡ true → IsKnownEffect program s what → IsBeside s (after_effect program s t operands what)
 effect_beside program s t operands effect.Nothing none known = beside_itself s
 effect_beside program s t operands (effect.GetField r n) none known = beside_itself s
 effect_beside program s t operands (effect.PutField r n v) none known = field_beside s r v (field_key_at program n) known

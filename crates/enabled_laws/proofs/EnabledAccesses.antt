@@ -1,6 +1,6 @@
 -- The enabledness of turns that load and store elements and fields.
 use Rattle.enabled_laws.proofs.EnabledObjects.{new_array_same}
-use Rattle.enabled_laws.proofs.EnabledTests.{AreValues, IsPair, Same, asking_same, fits_same, found_for, if_deep_same, if_deep_when, same_either, same_on, same_when, thrown_same, related_after, with_object_same}
+use Rattle.enabled_laws.proofs.EnabledTests.{AreValues, IsPair, Same, class_use_same, fits_same, found_for, if_deep_same, if_deep_when, same_either, same_on, same_when, thrown_same, related_after, with_object_same}
 use Rattle.enabled_laws.proofs.FieldTypes.{type_of_key}
 use Rattle.enabled_laws.proofs.Heaps.{IsSized, same_keys}
 use Rattle.enabled_laws.proofs.Related.{IsFree, Stays, WasBad, on_either, on_or_bad, readiness, ready_or_bad, room_for_any, throws_on}
@@ -220,7 +220,7 @@ module _ {Rel : Bool → Bool → Type 0} {program : List Class} {limits : Limit
     numbered_field_same how type n None deep spelled = same_on thread stays refl
     numbered_field_same how type n (Some key) deep spelled =
         same_either thread stays (is_static_use how) _ _ _ _
-        (asking_same thread stays n.class _ _ (static_field_same frame how type n key deep (spelled key refl)))
+        (class_use_same thread stays n.class _ _ (static_field_same frame how type n key deep (spelled key refl)))
         (instance_field_same frame how type n key (object_of_use how type frame.activation.operands) (use_is_value how type frame.activation.operands are) deep (spelled key refl))
 
     found_field_same : (how : FieldUse) (type : FieldType) (o : Option FieldNumber) → has_depth frame.body (field_takes how type) (field_gives how type) frame.activation ≡ true → ((n : FieldNumber) → o ≡ Some n → IsTypeOf type n) → Same thread stays (found_field_decision program limits s u thread frame how type o) (found_field_decision program limits after u thread frame how type o)

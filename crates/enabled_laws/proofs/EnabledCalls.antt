@@ -1,5 +1,5 @@
 -- The enabledness of turns that call a method.
-use Rattle.enabled_laws.proofs.EnabledTests.{AreValues, IsPair, Same, asking_same, called_same, found_for, numbered_same, same_either, same_on, thrown_same, related_after, related_both}
+use Rattle.enabled_laws.proofs.EnabledTests.{AreValues, IsPair, Same, class_use_same, called_same, found_for, numbered_same, same_either, same_on, thrown_same, related_after, related_both}
 use Rattle.enabled_laws.proofs.Heaps.{class_kept}
 use Rattle.enabled_laws.proofs.Kept.{is_over}
 use Rattle.enabled_laws.proofs.Related.{Stays, may_join, on_either, on_if, readiness, ready_or_bad, throws_on}
@@ -10,7 +10,7 @@ use Rattle.jvms_machine.proofs.ListLaws.{all_at}
 use Rattle.jvms_machine.specs.Activations.{has_depth}
 use Rattle.jvms_machine.specs.Calls.{are_of_call, call_decision, invoke_decision, receiver_call_decision, receiver_of, resolved_call_decision, selected_method, selected_decision, static_call_decision, slots_of_call, wrong_receiver}
 use Rattle.jvms_machine.specs.Decisions.{TurnDecision}
-use Rattle.jvms_machine.specs.Fields.{reaches, taking}
+use Rattle.jvms_machine.specs.Fields.{reaches, next_action}
 use Rattle.jvms_machine.specs.Natives.{native_of_class, object_printed, print_decision, value_printed}
 use Rattle.jvms_machine.specs.Places.{whole_top}
 use Rattle.jvms_machine.specs.State.{Activation, IsValue, MethodFrame, Object, State, Thread, array, class_object, class_of, instance, monitor_at, result_length, same_object, text}
@@ -101,7 +101,7 @@ module _ {Rel : Bool → Bool → Type 0} {program : List Class} {limits : Limit
 
   join_by : (st : State) (a : Activation) (v : ℕ) (o : Option Thread) → v < length st.threads → o ≡ slice_get st.threads v → readiness (join_decision st a (Some v)) ≡ Some (is_over o)
   join_by st a v None within e = absurd (none-some (get_or st.threads v thread) (e ∙ slice_get-get_or st.threads v thread within))
-  join_by st a v (Some other) within e = rw (← e) (on_if other.ended (reaches (effect.Joins v) (taking 1 a)) (decision.Stays (outcome.Blocked (blocked.Join v))) refl refl)
+  join_by st a v (Some other) within e = rw (← e) (on_if other.ended (reaches (effect.Joins v) (next_action 1 a)) (decision.Stays (outcome.Blocked (blocked.Join v))) refl refl)
 
   join_is_on : (st : State) (a : Activation) (r : ℕ) (o : Option ℕ) → thread_of st.threads r ≡ o → readiness (join_decision st a o) ≡ Some (may_join st.threads o)
   join_is_on st a r None started = refl
@@ -142,7 +142,7 @@ module _ {Rel : Bool → Bool → Type 0} {program : List Class} {limits : Limit
 
   static_call_same : (a : Activation) (takes : ℕ) (f : ResolvedMethod) → AreValues thread stays a.operands → Same thread stays (static_call_decision program limits s u thread a takes f) (static_call_decision program limits after u thread a takes f)
   static_call_same a takes f are =
-      numbered_same thread stays (method_number program f) _ _ (λ n m. asking_same thread stays n.class _ _ (call_same a None takes n m are))
+      numbered_same thread stays (method_number program f) _ _ (λ n m. class_use_same thread stays n.class _ _ (call_same a None takes n m are))
 
   selected_same : (a : Activation) (q takes : ℕ) (o : Option ResolvedMethod) → AreValues thread stays a.operands → Same thread stays (selected_decision program limits s u thread a q takes o) (selected_decision program limits after u thread a q takes o)
   selected_same a q takes None are = thrown_same thread stays thrown.AbstractMethodError

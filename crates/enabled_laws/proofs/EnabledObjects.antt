@@ -1,10 +1,10 @@
 -- The enabledness of turns that create objects or require their class, and of first calls and initialisations.
-use Rattle.enabled_laws.proofs.EnabledTests.{AreValues, Same, asking_same, called_same, found_for, if_deep_same, numbered_same, same_either, same_on, thrown_same, related_after, with_int_same}
+use Rattle.enabled_laws.proofs.EnabledTests.{AreValues, Same, class_use_same, called_same, found_for, if_deep_same, numbered_same, same_either, same_on, thrown_same, related_after, with_int_same}
 use Rattle.enabled_laws.proofs.Heaps.{class_kept}
 use Rattle.enabled_laws.proofs.Related.{Stays, readiness, on_either, throws_on}
 use Rattle.jvms_file.specs.declared.insn.ArrayType.{ArrayType}
 use Rattle.jvms_file.specs.declared.insn.ClassUse.{ClassUse}
-use Rattle.jvms_machine.specs.Arrays.{counted_lengths, is_int, is_negative, length_decision, lengths_in, making, new_array_decision, new_arrays_decision, new_arrays_room, new_class_array_decision}
+use Rattle.jvms_machine.specs.Arrays.{counted_lengths, is_int, is_negative, length_decision, lengths_in, creation_decision, new_array_decision, new_arrays_decision, new_arrays_room, new_class_array_decision}
 use Rattle.jvms_machine.specs.Calls.{entry_decision, first_call, first_call_decision, run_decision, run_of_class, selected_run}
 use Rattle.jvms_machine.specs.Decisions.{TurnDecision}
 use Rattle.jvms_machine.specs.Exceptions.{has_room_for, throws}
@@ -55,7 +55,7 @@ module _ {Rel : Bool → Bool → Type 0} {program : List Class} {limits : Limit
       if_deep_same thread stays frame 1 1 _ _ (with_int_same thread stays frame.activation.operands _ _
       (λ n. same_either thread stays (not (class_exists program name)) _ _ _ _ (thrown_same thread stays thrown.NoClassDefFoundError) (length_same (array_of_class name) n)))
 
-  arrays_on : (st : State) (class : List ℕ) (dimensions : ℕ) (lengths : List ℕ) → readiness (cond (not (has_room_for_elements (arrays_made lengths) (elements_made lengths) limits st)) (throws limits st thread thrown.OutOfMemoryError) (making st dimensions (new_object.Arrays class dimensions))) ≡ Some true
+  arrays_on : (st : State) (class : List ℕ) (dimensions : ℕ) (lengths : List ℕ) → readiness (cond (not (has_room_for_elements (arrays_made lengths) (elements_made lengths) limits st)) (throws limits st thread thrown.OutOfMemoryError) (creation_decision st dimensions (new_object.Arrays class dimensions))) ≡ Some true
   arrays_on st class dimensions lengths =
       on_either (not (has_room_for_elements (arrays_made lengths) (elements_made lengths) limits st)) _ _ (throws_on limits st thread thrown.OutOfMemoryError) refl
 
@@ -78,7 +78,7 @@ module _ {Rel : Bool → Bool → Type 0} {program : List Class} {limits : Limit
   instance_of_same : (o : Option ℕ) → Same thread stays (instance_of_number program limits s u thread o) (instance_of_number program limits after u thread o)
   instance_of_same None = same_on thread stays refl
   instance_of_same (Some class) =
-      asking_same thread stays class _ _ (same_on thread stays (made_on after 0 (new_object.Instance class) ∙ sym (made_on s 0 (new_object.Instance class))))
+      class_use_same thread stays class _ _ (same_on thread stays (made_on after 0 (new_object.Instance class) ∙ sym (made_on s 0 (new_object.Instance class))))
 
   new_same : (name : List ℕ) (o : Option Class) → Same thread stays (new_instance_decision program limits s u thread name o) (new_instance_decision program limits after u thread name o)
   new_same name None = thrown_same thread stays thrown.NoClassDefFoundError
@@ -135,7 +135,7 @@ module _ {Rel : Bool → Bool → Type 0} {program : List Class} {limits : Limit
   entry_same start None = same_on thread stays refl
   entry_same start (Some m) =
       same_either thread stays (is_outside_method m.method_type) _ _ _ _ (same_on thread stays refl)
-      (asking_same thread stays start.method.class _ _ (first_same None (length start.arguments) start.method m))
+      (class_use_same thread stays start.method.class _ _ (first_same None (length start.arguments) start.method m))
 
   selected_run_same : (r : ℕ) (o : Option ResolvedMethod) → Same thread stays (selected_run program limits s u thread r o) (selected_run program limits after u thread r o)
   selected_run_same r None = thrown_same thread stays thrown.AbstractMethodError
@@ -163,7 +163,7 @@ module _ {Rel : Bool → Bool → Type 0} {program : List Class} {limits : Limit
 
   superclass_same : (o : Option ℕ) (continued next : TurnDecision) → Same thread stays continued next → Same thread stays (superclass_decision program limits s u thread o continued) (superclass_decision program limits after u thread o next)
   superclass_same None continued next same = same
-  superclass_same (Some super) continued next same = asking_same thread stays super continued next same
+  superclass_same (Some super) continued next same = class_use_same thread stays super continued next same
 
   pub initialisation_same : (class : ℕ) (called : Bool) (o : Option Class) → Same thread stays (initialisation_decision program limits s u thread class called o) (initialisation_decision program limits after u thread class called o)
   initialisation_same class called None = same_on thread stays refl

@@ -1,15 +1,15 @@
 -- The enabledness of turns that pop a frame, throw, or enter and leave a monitor.
-use Rattle.enabled_laws.proofs.EnabledTests.{AreValues, IsPair, Same, entering_same, fits_same, found_for, if_deep_same, same_either, same_on, related_after, with_object_same}
+use Rattle.enabled_laws.proofs.EnabledTests.{AreValues, IsPair, Same, monitor_entry_same, fits_same, found_for, if_deep_same, same_either, same_on, related_after, with_object_same}
 use Rattle.enabled_laws.proofs.Heaps.{class_kept}
 use Rattle.enabled_laws.proofs.Related.{Stays, readiness, popped_on, throws_on}
 use Rattle.jvms_file.specs.declared.descriptor.ResultType.{ResultType}
 use Rattle.jvms_file.specs.declared.insn.Kind.{Kind}
 use Rattle.jvms_file.specs.declared.insn.ReturnInsn.{ReturnInsn}
 use Rattle.jvms_machine.specs.Decisions.{TurnDecision, bad}
-use Rattle.jvms_machine.specs.Fields.{reaches, taking}
+use Rattle.jvms_machine.specs.Fields.{reaches, next_action}
 use Rattle.jvms_machine.specs.Locals.{is_profile_kind}
 use Rattle.jvms_machine.specs.Locking.{enter_object, exit_object, monitor_enter_decision, monitor_exit_decision, on_top_object}
-use Rattle.jvms_machine.specs.Monitors.{fails_to_unlock, is_empty, leaving, unlocking}
+use Rattle.jvms_machine.specs.Monitors.{fails_to_unlock, is_empty, monitor_exit, frame_unlocking}
 use Rattle.jvms_machine.specs.Places.{kind_size, top_value}
 use Rattle.jvms_machine.specs.Returns.{gives_kind, gives_nothing, method_return_decision, return_decision, return_top_decision, return_value_decision, returned_decision, returns_to}
 use Rattle.jvms_machine.specs.State.{Frame, IsReference, MethodFrame, Object, State, Thread, class_of}
@@ -33,13 +33,13 @@ use Rattle.jvms_program.specs.declared.thrown.Thrown.TheVariants as thrown
 module _ {Rel : Bool → Bool → Type 0} {program : List Class} {limits : Limits} {s after : State} {u : ℕ} (thread : Thread) (stays : Stays Rel program limits s after u) where
   -- ---- Frames that are popped
 
-  unlocking_by : (st : State) (r : ℕ) (o : Option MonitorUse) (fails : TurnDecision) (make : Option MonitorUse → TurnDecision) → o ≡ leaving st u r → readiness fails ≡ Some true → ((unlock : Option MonitorUse) → readiness (make unlock) ≡ Some true) → readiness (unlocking st u (Some r) fails make) ≡ Some true
-  unlocking_by st r None fails make e failing on = rw (← e) failing
-  unlocking_by st r (Some monitor) fails make e failing on = rw (← e) (on (Some monitor))
+  frame_unlocking_by : (st : State) (r : ℕ) (o : Option MonitorUse) (fails : TurnDecision) (make : Option MonitorUse → TurnDecision) → o ≡ monitor_exit st u r → readiness fails ≡ Some true → ((unlock : Option MonitorUse) → readiness (make unlock) ≡ Some true) → readiness (frame_unlocking st u (Some r) fails make) ≡ Some true
+  frame_unlocking_by st r None fails make e failing on = rw (← e) failing
+  frame_unlocking_by st r (Some monitor) fails make e failing on = rw (← e) (on (Some monitor))
 
-  unlocking_on : (st : State) (o : Option ℕ) (fails : TurnDecision) (make : Option MonitorUse → TurnDecision) → readiness fails ≡ Some true → ((unlock : Option MonitorUse) → readiness (make unlock) ≡ Some true) → readiness (unlocking st u o fails make) ≡ Some true
-  unlocking_on st None fails make failing on = on None
-  unlocking_on st (Some r) fails make failing on = unlocking_by st r (leaving st u r) fails make refl failing on
+  frame_unlocking_on : (st : State) (o : Option ℕ) (fails : TurnDecision) (make : Option MonitorUse → TurnDecision) → readiness fails ≡ Some true → ((unlock : Option MonitorUse) → readiness (make unlock) ≡ Some true) → readiness (frame_unlocking st u o fails make) ≡ Some true
+  frame_unlocking_on st None fails make failing on = on None
+  frame_unlocking_on st (Some r) fails make failing on = frame_unlocking_by st r (monitor_exit st u r) fails make refl failing on
 
   returns_on : (n : MethodNumber) (below : List Frame) (result : Option Value) (unlock : Option MonitorUse) → readiness (returns_to n below result unlock) ≡ Some true
   returns_on n [] result unlock = refl
@@ -47,7 +47,7 @@ module _ {Rel : Bool → Bool → Type 0} {program : List Class} {limits : Limit
 
   returned_on : (st : State) (f : MethodFrame) (below : List Frame) (result : Option Value) → readiness (returned_decision limits st u f below result) ≡ Some true
   returned_on st f below result =
-      unlocking_on st f.monitor (fails_to_unlock limits st f.method below) (returns_to f.method below result) (popped_on (is_empty below)) (returns_on f.method below result)
+      frame_unlocking_on st f.monitor (fails_to_unlock limits st f.method below) (returns_to f.method below result) (popped_on (is_empty below)) (returns_on f.method below result)
 
   returned_same : (f : MethodFrame) (below : List Frame) (result : Option Value) → Same thread stays (returned_decision limits s u f below result) (returned_decision limits after u f below result)
   returned_same f below result = same_on thread stays (returned_on after f below result ∙ sym (returned_on s f below result))
@@ -70,7 +70,7 @@ module _ {Rel : Bool → Bool → Type 0} {program : List Class} {limits : Limit
 
   popped_call_on : (st : State) (f : MethodFrame) (below : List Frame) → readiness (popped_decision limits st u f below) ≡ Some true
   popped_call_on st f below =
-      unlocking_on st f.monitor (fails_to_unlock limits st f.method below) (λ unlock. decision.Applies (action.Unwinds f.method (is_empty below) unlock)) (popped_on (is_empty below)) (λ unlock. popped_on (is_empty below))
+      frame_unlocking_on st f.monitor (fails_to_unlock limits st f.method below) (λ unlock. decision.Applies (action.Unwinds f.method (is_empty below) unlock)) (popped_on (is_empty below)) (λ unlock. popped_on (is_empty below))
 
   handler_same : (f : MethodFrame) (below : List Frame) (r : ℕ) (o : Option ExceptionHandler) → Same thread stays (handler_decision limits s u f below r o) (handler_decision limits after u f below r o)
   handler_same f below r None = same_on thread stays (popped_call_on after f below ∙ sym (popped_call_on s f below))
@@ -111,9 +111,9 @@ module _ {Rel : Bool → Bool → Type 0} {program : List Class} {limits : Limit
   unfolding monitor_enter_decision
   monitor_enter_same frame are =
       if_deep_same thread stays frame 1 0 _ _ (on_top_same frame.activation.operands (enter_object limits s u thread frame) (enter_object limits after u thread frame) are
-      (λ r was now. entering_same thread stays r (λ monitor. reaches (effect.Locks monitor) (taking 1 frame.activation)) (λ monitor. refl)))
+      (λ r was now. monitor_entry_same thread stays r (λ monitor. reaches (effect.Locks monitor) (next_action 1 frame.activation)) (λ monitor. refl)))
 
-  exit_by : (st : State) (frame : MethodFrame) (r : ℕ) (o : Object) (how : Option MonitorUse) → how ≡ leaving st u r → readiness (exit_object limits st u thread frame r o) ≡ Some true
+  exit_by : (st : State) (frame : MethodFrame) (r : ℕ) (o : Object) (how : Option MonitorUse) → how ≡ monitor_exit st u r → readiness (exit_object limits st u thread frame r o) ≡ Some true
   exit_by st frame r o None e = rw (← e) (throws_on limits st thread thrown.IllegalMonitorStateException)
   exit_by st frame r o (Some monitor) e = rw (← e) refl
 
@@ -121,4 +121,4 @@ module _ {Rel : Bool → Bool → Type 0} {program : List Class} {limits : Limit
   unfolding monitor_exit_decision
   monitor_exit_same frame are =
       if_deep_same thread stays frame 1 0 _ _ (on_top_same frame.activation.operands (exit_object limits s u thread frame) (exit_object limits after u thread frame) are
-      (λ r was now. same_on thread stays (exit_by after frame r now (leaving after u r) refl ∙ sym (exit_by s frame r was (leaving s u r) refl))))
+      (λ r was now. same_on thread stays (exit_by after frame r now (monitor_exit after u r) refl ∙ sym (exit_by s frame r was (monitor_exit s u r) refl))))

@@ -3,13 +3,13 @@ use Rattle.enabled_laws.proofs.Heaps.{ArePair, IsFound, class_kept, found}
 use Rattle.enabled_laws.proofs.Kept.{may_enter, may_lock}
 use Rattle.enabled_laws.proofs.Related.{AsBefore, Asked, IsFit, Related, Stays, WaitsNow, WasBad, on_either, on_unless, readiness, ready_or_bad, throws_on}
 use Rattle.jvms_machine.specs.Activations.{has_depth}
-use Rattle.jvms_machine.specs.Arrays.{if_deep, making, with_int, with_object_of}
+use Rattle.jvms_machine.specs.Arrays.{if_deep, creation_decision, with_int, with_object_of}
 use Rattle.jvms_machine.specs.Calls.{called_decision, enter_decision, with_method, with_body}
 use Rattle.jvms_machine.specs.Decisions.{TurnDecision}
 use Rattle.jvms_machine.specs.Exceptions.{has_room_for, throws}
 use Rattle.jvms_machine.specs.Heap.{class_name_at, next_reference}
-use Rattle.jvms_machine.specs.Initialisation.{asking, requiring_class_in, begin_decision, constants_of, new_texts}
-use Rattle.jvms_machine.specs.Monitors.{class_locking, entering, entering_held, locking, object_locking}
+use Rattle.jvms_machine.specs.Initialisation.{class_use_decision, requiring_class_in, begin_decision, constants_of, new_texts}
+use Rattle.jvms_machine.specs.Monitors.{class_locking, monitor_entry, monitor_entry_by_hold, call_locking, object_locking}
 use Rattle.jvms_machine.specs.State.{IsReference, IsValue, MethodFrame, Object, State, Thread, class_of, class_reference, monitor_at, object_at}
 use Rattle.jvms_machine.specs.declared.action.Lock.{Lock}
 use Rattle.jvms_machine.specs.declared.action.MonitorUse.{MonitorUse}
@@ -69,12 +69,12 @@ module _ {Rel : Bool → Bool → Type 0} {program : List Class} {limits : Limit
       on_either (not (has_room_for (length (new_texts r.heap (constants_of c.fields))) limits r)) _ _ (throws_on limits r thread thrown.OutOfMemoryError)
       (on_either (nat_le limits.frames (length thread.frames)) _ _ (throws_on limits r thread thrown.StackOverflowError) refl)
 
-  asking_at_same : (class : ℕ) (o : Option Initialisation) (continued next : TurnDecision) → Same continued next → Same (requiring_class_in program limits s u thread class o continued) (requiring_class_in program limits after u thread class o next)
-  asking_at_same class None continued next same = same_on refl
-  asking_at_same class (Some initialisation.NotBegun) continued next same = same_on (begin_is_on after class (slice_get program class) ∙ sym (begin_is_on s class (slice_get program class)))
-  asking_at_same class (Some (initialisation.InProgress v)) continued next same = same_either (v == u) _ _ _ _ same (same_on refl)
-  asking_at_same class (Some initialisation.Done) continued next same = same
-  asking_at_same class (Some initialisation.Erroneous) continued next same = thrown_same thrown.NoClassDefFoundError
+  class_use_at_same : (class : ℕ) (o : Option Initialisation) (continued next : TurnDecision) → Same continued next → Same (requiring_class_in program limits s u thread class o continued) (requiring_class_in program limits after u thread class o next)
+  class_use_at_same class None continued next same = same_on refl
+  class_use_at_same class (Some initialisation.NotBegun) continued next same = same_on (begin_is_on after class (slice_get program class) ∙ sym (begin_is_on s class (slice_get program class)))
+  class_use_at_same class (Some (initialisation.InProgress v)) continued next same = same_either (v == u) _ _ _ _ same (same_on refl)
+  class_use_at_same class (Some initialisation.Done) continued next same = same
+  class_use_at_same class (Some initialisation.Erroneous) continued next same = thrown_same thrown.NoClassDefFoundError
 
   -- A thread waits for a class that another thread initialises.
   waits_off : (st : State) (class v : ℕ) (continued : TurnDecision) → (v == u) ≡ false → readiness (requiring_class_in program limits st u thread class (Some (initialisation.InProgress v)) continued) ≡ Some false
@@ -85,36 +85,36 @@ module _ {Rel : Bool → Bool → Type 0} {program : List Class} {limits : Limit
   waits_now (Some a) tells = IsFit a false (tells a)
 
   asked_same : (class : ℕ) (o p : Option Initialisation) (continued next : TurnDecision) → Asked Rel u o p → Same continued next → Same (requiring_class_in program limits s u thread class o continued) (requiring_class_in program limits after u thread class p next)
-  asked_same class o p continued next (AsBefore q) same = asking_at_same class q continued next same
+  asked_same class o p continued next (AsBefore q) same = class_use_at_same class q continued next same
   asked_same class o p continued next (WaitsNow q v other tells) same =
       related_after (waits_off after class v next other) (waits_now (readiness (requiring_class_in program limits s u thread class q continued)) tells)
 
-  pub asking_same : (class : ℕ) (continued next : TurnDecision) → Same continued next → Same (asking program limits s u thread class continued) (asking program limits after u thread class next)
-  asking_same class continued next same = asked_same class (slice_get s.initialisations class) (slice_get after.initialisations class) continued next (stays.asked class) same
+  pub class_use_same : (class : ℕ) (continued next : TurnDecision) → Same continued next → Same (class_use_decision program limits s u thread class continued) (class_use_decision program limits after u thread class next)
+  class_use_same class continued next same = asked_same class (slice_get s.initialisations class) (slice_get after.initialisations class) continued next (stays.asked class) same
 
   -- ---- Monitors
 
-  entering_is_on : (st : State) (r : ℕ) (o : Option Hold) (make : MonitorUse → TurnDecision) → ((monitor : MonitorUse) → readiness (make monitor) ≡ Some true) → readiness (entering_held limits st u thread r o make) ≡ Some (may_enter u o)
-  entering_is_on st r None make on = on (record { reference = r; outermost = true })
-  entering_is_on st r (Some h) make on =
+  monitor_entry_is_on : (st : State) (r : ℕ) (o : Option Hold) (make : MonitorUse → TurnDecision) → ((monitor : MonitorUse) → readiness (make monitor) ≡ Some true) → readiness (monitor_entry_by_hold limits st u thread r o make) ≡ Some (may_enter u o)
+  monitor_entry_is_on st r None make on = on (record { reference = r; outermost = true })
+  monitor_entry_is_on st r (Some h) make on =
       on_unless (h.owner == u) _ _ refl
       (on_either (h.count == 4294967295) _ _ (throws_on limits st thread thrown.OutOfMemoryError) (on (record { reference = r; outermost = false })))
 
-  pub entering_same : (r : ℕ) (make : MonitorUse → TurnDecision) → ((monitor : MonitorUse) → readiness (make monitor) ≡ Some true) → Same (entering limits s u thread r make) (entering limits after u thread r make)
-  entering_same r make on =
-      related_both (entering_is_on s r (monitor_at s.monitors r) make on) (entering_is_on after r (monitor_at after.monitors r) make on) (stays.enters r)
+  pub monitor_entry_same : (r : ℕ) (make : MonitorUse → TurnDecision) → ((monitor : MonitorUse) → readiness (make monitor) ≡ Some true) → Same (monitor_entry limits s u thread r make) (monitor_entry limits after u thread r make)
+  monitor_entry_same r make on =
+      related_both (monitor_entry_is_on s r (monitor_at s.monitors r) make on) (monitor_entry_is_on after r (monitor_at after.monitors r) make on) (stays.enters r)
 
   object_locking_same : (receiver : Option ℕ) (make : Lock → TurnDecision) → ((locked : Lock) → readiness (make locked) ≡ Some true) → Same (object_locking limits s u thread receiver make) (object_locking limits after u thread receiver make)
   object_locking_same None make on = same_on refl
-  object_locking_same (Some r) make on = entering_same r (λ monitor. make (lock.Monitor monitor)) (λ monitor. on (lock.Monitor monitor))
+  object_locking_same (Some r) make on = monitor_entry_same r (λ monitor. make (lock.Monitor monitor)) (λ monitor. on (lock.Monitor monitor))
 
   class_locking_is_on : (st : State) (class : ℕ) (o : Option ℕ) (make : Lock → TurnDecision) → ((locked : Lock) → readiness (make locked) ≡ Some true) → readiness (class_locking limits st u thread class o make) ≡ Some (may_lock u st.monitors o)
-  class_locking_is_on st class (Some r) make on = entering_is_on st r (monitor_at st.monitors r) (λ monitor. make (lock.Monitor monitor)) (λ monitor. on (lock.Monitor monitor))
+  class_locking_is_on st class (Some r) make on = monitor_entry_is_on st r (monitor_at st.monitors r) (λ monitor. make (lock.Monitor monitor)) (λ monitor. on (lock.Monitor monitor))
   class_locking_is_on st class None make on =
       on_either (has_room_for 1 limits st) _ _ (on (lock.NewClass class (next_reference st.heap))) (throws_on limits st thread thrown.OutOfMemoryError)
 
-  locking_same : (n : MethodNumber) (m : Method) (receiver : Option ℕ) (make : Lock → TurnDecision) → ((locked : Lock) → readiness (make locked) ≡ Some true) → Same (locking program limits s u thread n m receiver make) (locking program limits after u thread n m receiver make)
-  locking_same n m receiver make on =
+  call_locking_same : (n : MethodNumber) (m : Method) (receiver : Option ℕ) (make : Lock → TurnDecision) → ((locked : Lock) → readiness (make locked) ≡ Some true) → Same (call_locking program limits s u thread n m receiver make) (call_locking program limits after u thread n m receiver make)
+  call_locking_same n m receiver make on =
       let name = class_name_at program n.class in
       same_either (not m.flags.is_synchronized) _ _ _ _ (same_on refl)
       (same_either m.flags.is_static _ _ _ _
@@ -127,7 +127,7 @@ module _ {Rel : Bool → Bool → Type 0} {program : List Class} {limits : Limit
   with_body_same n m receiver arguments None make on = same_on refl
   with_body_same n m receiver arguments (Some body) make on =
       same_either (nat_le limits.frames (length thread.frames)) _ _ _ _ (thrown_same thrown.StackOverflowError)
-      (same_either (nat_lt body.max_locals arguments) _ _ _ _ (same_on refl) (locking_same n m receiver (make body) (on body)))
+      (same_either (nat_lt body.max_locals arguments) _ _ _ _ (same_on refl) (call_locking_same n m receiver (make body) (on body)))
 
   pub called_same : (n : MethodNumber) (m : Method) (receiver : Option ℕ) (arguments : ℕ) (native native_after : TurnDecision) (make : Body → Lock → TurnDecision) → Same native native_after → ((body : Body) (locked : Lock) → readiness (make body locked) ≡ Some true) → Same (called_decision program limits s u thread n m receiver arguments native make) (called_decision program limits after u thread n m receiver arguments native_after make)
   called_same n m receiver arguments native native_after make same on =

@@ -13,7 +13,7 @@ use Rattle.jvms_machine.specs.State.{Frame, IsFrame, IsReference, IsThread, IsTh
 use Rattle.jvms_machine.specs.Status.{is_bad, is_enabled}
 use Rattle.jvms_machine.specs.Steps.{frame_decision, instruction_at}
 use Rattle.jvms_machine.specs.Turn.{decide, frame_turn_decision, frames_decision, started_decision, instruction_decision, reaching_decision, thread_decision, turn}
-use Rattle.jvms_machine.specs.Waiting.{is_waiter, retaking, waiting_decision}
+use Rattle.jvms_machine.specs.Waiting.{is_waiter, retake_decision, waiting_decision}
 use Rattle.jvms_machine.specs.declared.action.FrameDecision.{FrameDecision}
 use Rattle.jvms_machine.specs.declared.machine.Limits.{Limits}
 use Rattle.jvms_machine.specs.declared.state.Hold.{Hold}
@@ -67,14 +67,14 @@ module _ {Rel : Bool → Bool → Type 0} {program : List Class} {limits : Limit
   stack_same start (stack_frame.Initialisation class called ∷ below) are object = initialisation_same thread stays class called (slice_get program class)
   stack_same start (stack_frame.Call frame ∷ below) are object = frame_turn_same frame below (instruction_at frame) are.0 refl
 
-  retaking_is_on : (w : Wait) (b : Bool) (o : Option Hold) → readiness (cond b (decision.Stays (outcome.Blocked (blocked.Wait w.reference))) (retaking w o)) ≡ Some (not b && is_none o)
-  retaking_is_on w true o = refl
-  retaking_is_on w false None = refl
-  retaking_is_on w false (Some h) = refl
+  retake_is_on : (w : Wait) (b : Bool) (o : Option Hold) → readiness (cond b (decision.Stays (outcome.Blocked (blocked.Wait w.reference))) (retake_decision w o)) ≡ Some (not b && is_none o)
+  retake_is_on w true o = refl
+  retake_is_on w false None = refl
+  retake_is_on w false (Some h) = refl
 
   waiting_is_on : (st : State) (w : Wait) → readiness (waiting_decision st u w) ≡ Some (may_retake u st.waiters (monitor_at st.monitors w.reference))
   unfolding waiting_decision
-  waiting_is_on st w = retaking_is_on w (is_waiter u st.waiters) (monitor_at st.monitors w.reference)
+  waiting_is_on st w = retake_is_on w (is_waiter u st.waiters) (monitor_at st.monitors w.reference)
 
   waiting_same : (w : Wait) → waits_for w.reference (slice_get s.threads u) ≡ true → Same thread stays (waiting_decision s u w) (waiting_decision after u w)
   waiting_same w waits = related_both thread stays (waiting_is_on s w) (waiting_is_on after w) (stays.retakes w.reference waits)

@@ -6,7 +6,7 @@ use Rattle.enabled_laws.proofs.QuietActions.{exception_initialises_none, excepti
 use Rattle.enabled_laws.proofs.Related.{IsRelation}
 use Rattle.enabled_laws.proofs.Turned.{Turned, beside_turned}
 use Rattle.enabled_laws.specs.Quiet.{is_giving, is_giving_effect, is_quiet, is_quiet_effect}
-use Rattle.jvms_machine.specs.Actions.{affected, applied_to, after_failure, thread_after_action, operands_of, put_to_wait, with_pending, after_return, unwound, with_changed, with_exception, with_result, with_unlock, with_waiter}
+use Rattle.jvms_machine.specs.Actions.{after_effect, applied_to, after_failure, thread_after_action, operands_of, put_to_wait, with_pending, after_return, unwound, with_changed, with_exception, with_result, with_unlock, with_waiter}
 use Rattle.jvms_machine.specs.Decisions.{TurnAction}
 use Rattle.jvms_machine.specs.Exceptions.{exception_reference}
 use Rattle.jvms_machine.specs.Monitors.{left_monitor}
@@ -91,7 +91,7 @@ module _ (program : List Class) (limits : Limits) (start : Start) (s : State) (t
       (λ _. record { heap = gives.heap; threads = gives.threads; others = gives.others; enters = gives.enters; asked = gives.asked })
       (λ _. gives)
 
-  effect_gives : (what : Effect (List ℕ)) (act : FrameAction) (others : List Value) → is_giving_effect what ≡ true → is_quiet_effect what ≡ false → Gives (with_changed (affected program s t others what) t (thread_after_action act))
+  effect_gives : (what : Effect (List ℕ)) (act : FrameAction) (others : List Value) → is_giving_effect what ≡ true → is_quiet_effect what ≡ false → Gives (with_changed (after_effect program s t others what) t (thread_after_action act))
   effect_gives (effect.Unlocks monitor) act others gives loud = unlock_gives (Some monitor) (thread_after_action act) refl
   effect_gives (effect.Locks monitor) act others gives loud = absurd (true≢false (sym gives ∙ loud))
   effect_gives (effect.Starts q w) act others gives loud = absurd (false≢true gives)

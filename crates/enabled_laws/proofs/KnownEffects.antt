@@ -4,7 +4,7 @@ use Rattle.jvms_file.specs.Descriptors.{field_type, units_of}
 use Rattle.jvms_file.specs.declared.descriptor.FieldType.{FieldType}
 use Rattle.jvms_machine.proofs.PlaceLaws.{type_units}
 use Rattle.jvms_machine.specs.Decisions.{TurnAction, TurnDecision}
-use Rattle.jvms_machine.specs.Exceptions.{exception_of, raising, throws}
+use Rattle.jvms_machine.specs.Exceptions.{exception_of, raise_decision, throws}
 use Rattle.jvms_machine.specs.Heap.{stored_as}
 use Rattle.jvms_machine.specs.Places.{kind_of_type, kind_size, value_size}
 use Rattle.jvms_machine.specs.Returns.{returns_to}
@@ -61,13 +61,13 @@ pub written_size : (type : FieldType) (v : Value) (o : Option FieldKey) → valu
 written_size type v None whole spelled = tt
 written_size type v (Some key) whole spelled = stored_size type v ∙ whole ∙ type_units type ∙ ap units_of (spelled key refl)
 
-raising_known : (program : List Class) (s : State) (frames : List Frame) (e : Exception) → IsKnownDecision program s (raising frames e)
-raising_known program s [] e = tt
-raising_known program s (f ∷ below) e = tt
+raise_known : (program : List Class) (s : State) (frames : List Frame) (e : Exception) → IsKnownDecision program s (raise_decision frames e)
+raise_known program s [] e = tt
+raise_known program s (f ∷ below) e = tt
 
 pub throws_known : (program : List Class) (limits : Limits) (s r : State) (thread : Thread) (class : Thrown) → IsKnownDecision program s (throws limits r thread class)
 unfolding throws
-throws_known program limits s r thread class = raising_known program s thread.frames (exception_of limits r class)
+throws_known program limits s r thread class = raise_known program s thread.frames (exception_of limits r class)
 
 pub returns_known : (program : List Class) (s : State) (n : MethodNumber) (below : List Frame) (result : Option Value) (unlock : Option MonitorUse) → IsKnownDecision program s (returns_to n below result unlock)
 returns_known program s n [] result unlock = tt

@@ -10,9 +10,9 @@ use Rattle.jvms_machine.specs.Decisions.{TurnDecision}
 use Rattle.jvms_machine.specs.Exceptions.{has_room_for, throws}
 use Rattle.jvms_machine.specs.Fields.{read_decision}
 use Rattle.jvms_machine.specs.Heap.{array_of_class, array_of_type, arrays_made, component_type, elements_made, has_dimensions, has_room_for_elements}
-use Rattle.jvms_machine.specs.Initialisation.{asked_superclass, asking, initialisation_decision, initializer_call, initializer_decision, initializer_of, superclass_decision}
+use Rattle.jvms_machine.specs.Initialisation.{asked_superclass, class_use_decision, initialisation_decision, initializer_call, initializer_decision, initializer_of, superclass_decision}
 use Rattle.jvms_machine.specs.Locking.{enter_object, exit_object, monitor_enter_decision, monitor_exit_decision, on_top_object}
-use Rattle.jvms_machine.specs.Monitors.{leaving}
+use Rattle.jvms_machine.specs.Monitors.{monitor_exit}
 use Rattle.jvms_machine.specs.Objects.{cast, class_decision, existing_or_new, instance_of_number, is_instantiable, loadable_decision, creation_if_room, new_instance_decision, instance_test_result, with_class_of}
 use Rattle.jvms_machine.specs.Places.{top_value, value_size}
 use Rattle.jvms_machine.specs.Profile.{is_outside_method}
@@ -36,7 +36,7 @@ use Rattle.std.proofs.Common.{Bool, List, None, Option, Some, [], codes, drop, f
 use Rattle.std.proofs.lemmas.Bool.{cond_both}
 use Rattle.std.specs.List.{list_all, list_any}
 use Rattle.std.specs.Prelude.{int_lt, unsigned_abs}
-use Rattle.turn_item_laws.proofs.DecisionWalks.{IsOfTests, asking_has, called_has, entering_has, if_deep_has, numbered_has, with_int_has, with_object_has}
+use Rattle.turn_item_laws.proofs.DecisionWalks.{IsOfTests, class_use_has, called_has, monitor_entry_has, if_deep_has, numbered_has, with_int_has, with_object_has}
 use Rattle.jvms_machine.specs.declared.action.Action.TheVariants as action
 use Rattle.jvms_file.specs.declared.insn.ArrayInsn.TheVariants as array_insn
 use Rattle.jvms_file.specs.declared.insn.ClassUse.TheVariants as class_use
@@ -60,8 +60,8 @@ module _ (program : List Class) (limits : Limits) (s : State) (t : ℕ) (thread 
   deep : (frame : MethodFrame) (takes gives : ℕ) (rest : TurnDecision) → Known rest → Known (if_deep frame takes gives rest)
   deep = if_deep_has program limits s t thread Known tests
 
-  asked : (class : ℕ) (continued : TurnDecision) → Known continued → Known (asking program limits s t thread class continued)
-  asked = asking_has program limits s t thread Known tests
+  asked : (class : ℕ) (continued : TurnDecision) → Known continued → Known (class_use_decision program limits s t thread class continued)
+  asked = class_use_has program limits s t thread Known tests
 
   of_object : (v : Value) (rest : ℕ → Object → TurnDecision) → ((r : ℕ) (o : Object) → Known (rest r o)) → Known (with_object_of limits s thread v rest)
   of_object v rest known = with_object_has program limits s t thread Known tests v rest (λ r o _. known r o)
@@ -85,16 +85,16 @@ module _ (program : List Class) (limits : Limits) (s : State) (t : ℕ) (thread 
   unfolding monitor_enter_decision
   monitor_enter_known frame =
       deep frame 1 0 _ (on_top_known frame.activation.operands (enter_object limits s t thread frame)
-      (λ r o. entering_has program limits s t thread Known tests r _ (λ monitor. tt)))
+      (λ r o. monitor_entry_has program limits s t thread Known tests r _ (λ monitor. tt)))
 
-  exit_by : (frame : MethodFrame) (r : ℕ) (o : Object) (how : Option MonitorUse) → how ≡ leaving s t r → Known (exit_object limits s t thread frame r o)
+  exit_by : (frame : MethodFrame) (r : ℕ) (o : Object) (how : Option MonitorUse) → how ≡ monitor_exit s t r → Known (exit_object limits s t thread frame r o)
   exit_by frame r o None e = rw (← e) (throws_is thrown.IllegalMonitorStateException)
   exit_by frame r o (Some monitor) e = rw (← e) tt
 
   pub monitor_exit_known : (frame : MethodFrame) → Known (monitor_exit_decision limits s t thread frame)
   unfolding monitor_exit_decision
   monitor_exit_known frame =
-      deep frame 1 0 _ (on_top_known frame.activation.operands (exit_object limits s t thread frame) (λ r o. exit_by frame r o (leaving s t r) refl))
+      deep frame 1 0 _ (on_top_known frame.activation.operands (exit_object limits s t thread frame) (λ r o. exit_by frame r o (monitor_exit s t r) refl))
 
   -- ---- New objects
 

@@ -15,7 +15,7 @@ use Rattle.jvms_machine.specs.Decisions.{TurnDecision}
 use Rattle.jvms_machine.specs.Exceptions.{throws}
 use Rattle.jvms_machine.specs.Fields.{are_of_field, field_decision, field_gives, field_takes, fields_of, found_field_decision, instance_decision, numbered_field_decision, object_decision, object_of_use, receiver_decision, resolved_field_decision, static_decision, write_decision}
 use Rattle.jvms_machine.specs.Heap.{value_of}
-use Rattle.jvms_machine.specs.Initialisation.{asking}
+use Rattle.jvms_machine.specs.Initialisation.{class_use_decision}
 use Rattle.jvms_machine.specs.Natives.{native_of_class, object_printed, print_decision, value_printed}
 use Rattle.jvms_machine.specs.Places.{kind_of_type, top_value, whole_top}
 use Rattle.jvms_machine.specs.Start.{Start}
@@ -23,7 +23,7 @@ use Rattle.jvms_machine.specs.State.{Activation, Frame, IsFrame, IsThread, Metho
 use Rattle.jvms_machine.specs.Steps.{frame_decision, instruction_at}
 use Rattle.jvms_machine.specs.Threads.{join_decision, start_decision, thread_native_decision, thread_of}
 use Rattle.jvms_machine.specs.Turn.{decide, frame_turn_decision, frames_decision, started_decision, instruction_decision, reaching_decision, thread_decision}
-use Rattle.jvms_machine.specs.Waiting.{is_waiter, object_native_decision, owner_decision, retaking, waiting_decision, waits_or_notifies}
+use Rattle.jvms_machine.specs.Waiting.{is_waiter, object_native_decision, owner_decision, retake_decision, waiting_decision, waits_or_notifies}
 use Rattle.jvms_machine.specs.declared.action.FrameDecision.{FrameDecision}
 use Rattle.jvms_machine.specs.declared.machine.Limits.{Limits}
 use Rattle.jvms_machine.specs.declared.state.Hold.{Hold}
@@ -44,7 +44,7 @@ use Rattle.std.proofs.Common.{Bool, List, None, Option, Some, [], ap, codes, fal
 use Rattle.std.proofs.lemmas.Bool.{cond_both}
 use Rattle.std.specs.List.{AllByRecursion}
 use Rattle.std.specs.Prelude.{Err, Ok, Result}
-use Rattle.turn_item_laws.proofs.DecisionWalks.{IsOfTests, asking_has, called_has, numbered_has}
+use Rattle.turn_item_laws.proofs.DecisionWalks.{IsOfTests, class_use_has, called_has, numbered_has}
 use Rattle.turn_item_laws.proofs.InstructionWalks.{IsOfPops, method_return_has, unwinding_has}
 use Rattle.jvms_machine.specs.declared.action.Action.TheVariants as action
 use Rattle.jvms_machine.specs.declared.action.Decision.TheVariants as decision
@@ -69,8 +69,8 @@ module _ (program : List Class) (limits : Limits) (s : State) (t : ℕ) (thread 
   tests : IsOfTests limits s thread Known
   tests = record { unmade = λ o. tt; thrown_by = throws_is; begun_by = λ class. tt }
 
-  asked : (class : ℕ) (continued : TurnDecision) → Known continued → Known (asking program limits s t thread class continued)
-  asked = asking_has program limits s t thread Known tests
+  asked : (class : ℕ) (continued : TurnDecision) → Known continued → Known (class_use_decision program limits s t thread class continued)
+  asked = class_use_has program limits s t thread Known tests
 
   -- ---- Fields
 
@@ -282,14 +282,14 @@ module _ (program : List Class) (limits : Limits) (s : State) (t : ℕ) (thread 
     stack_known start (stack_frame.Initialisation class called ∷ below) frames_are is = initialisation_known program limits s t thread class called (slice_get program class)
     stack_known start (stack_frame.Call frame ∷ below) frames_are is = frame_turn_known frame below (instruction_at frame) frames_are is.0 refl
 
-    retaking_known : (w : Wait) (o : Option Hold) → Known (retaking w o)
-    retaking_known w None = tt
-    retaking_known w (Some h) = tt
+    retake_known : (w : Wait) (o : Option Hold) → Known (retake_decision w o)
+    retake_known w None = tt
+    retake_known w (Some h) = tt
 
     waiting_known : (w : Wait) → Known (waiting_decision s t w)
     unfolding waiting_decision
     waiting_known w =
-        cond_both (is_waiter t s.waiters) _ _ Known (λ _. tt) (λ _. retaking_known w (monitor_at s.monitors w.reference))
+        cond_both (is_waiter t s.waiters) _ _ Known (λ _. tt) (λ _. retake_known w (monitor_at s.monitors w.reference))
 
     status_known : (start : Start) (ended : Bool) (pending : Option ℕ) (waits : Option Wait) → IsThread program limits s.heap thread → Known (started_decision program limits start s t thread (status_by ended pending waits))
     status_known start true pending waits is = tt

@@ -6,7 +6,7 @@ use Rattle.enabled_laws.proofs.Statics.{begins_none}
 use Rattle.enabled_laws.specs.Kept.{ends_thread}
 use Rattle.enabled_laws.specs.Quiet.{is_inner, is_quiet, is_quiet_effect, is_quiet_lock, is_quiet_unlock}
 use Rattle.jvms_machine.proofs.HeldMonitors.{left_old}
-use Rattle.jvms_machine.specs.Actions.{affected, applied_to, effect_items, exit_items, thread_after_action, items_of, mark, operands_of, put_field, put_static, release_items, after_return, unlock_items, unwound, with_changed, with_exception, with_lock, with_unlock}
+use Rattle.jvms_machine.specs.Actions.{after_effect, applied_to, effect_items, exit_items, thread_after_action, items_of, mark, operands_of, put_field, put_static, release_items, after_return, unlock_items, unwound, with_changed, with_exception, with_lock, with_unlock}
 use Rattle.jvms_machine.specs.Decisions.{TurnAction, outcome_of_action}
 use Rattle.jvms_machine.specs.Events.{is_release, newly_held, releases_between}
 use Rattle.jvms_machine.specs.Monitors.{entered_monitor, left_monitor}
@@ -137,7 +137,7 @@ module _ (program : List Class) (limits : Limits) (start : Start) (s : State) (t
   exception_keeps (exception.New class) = λ v r. refl
   exception_keeps (exception.Existing r) = λ v q. refl
 
-  effect_keeps : (after : State) (operands : List Value) (what : Effect (List ℕ)) → is_quiet_effect what ≡ true → CanBeMade s operands what → (others : List Value) → after.monitors ≡ (affected program s t others what).monitors → filter is_release (effect_items program t what) ≡ releases_between t s after → KeepsMonitors (affected program s t others what)
+  effect_keeps : (after : State) (operands : List Value) (what : Effect (List ℕ)) → is_quiet_effect what ≡ true → CanBeMade s operands what → (others : List Value) → after.monitors ≡ (after_effect program s t others what).monitors → filter is_release (effect_items program t what) ≡ releases_between t s after → KeepsMonitors (after_effect program s t others what)
   effect_keeps after operands effect.Nothing quiet can others made releases = λ w q. refl
   effect_keeps after operands (effect.GetField r n) quiet can others made releases = λ w q. refl
   effect_keeps after operands (effect.PutField r n v) quiet can others made releases = field_keeps r v (field_key_at program n)
@@ -162,7 +162,7 @@ module _ (program : List Class) (limits : Limits) (start : Start) (s : State) (t
   unfolding applied_to items_of
   action_keeps (action.Goes act) quiet ready releases = λ w q. refl
   action_keeps (action.Reaches what act) quiet ready releases =
-      effect_keeps (with_changed (affected program s t (operands_of (slice_get s.threads t)) what) t (thread_after_action act)) _ what quiet ready.3 (operands_of (slice_get s.threads t)) refl releases
+      effect_keeps (with_changed (after_effect program s t (operands_of (slice_get s.threads t)) what) t (thread_after_action act)) _ what quiet ready.3 (operands_of (slice_get s.threads t)) refl releases
   action_keeps (action.Begins class) quiet ready releases = absurd (false≢true quiet)
   action_keeps (action.Finishes class) quiet ready releases = absurd (false≢true quiet)
   action_keeps (action.Enters method body locked) quiet ready releases = lock_keeps locked quiet ready.1
@@ -189,7 +189,7 @@ module _ (program : List Class) (start : Start) (s : State) (t : ℕ) where
   abbrev pub KeepsInitialisations : State → Type 0
   KeepsInitialisations after = after.initialisations ≡ s.initialisations
 
-  effect_initialises_none : (others : List Value) (what : Effect (List ℕ)) → KeepsInitialisations (affected program s t others what)
+  effect_initialises_none : (others : List Value) (what : Effect (List ℕ)) → KeepsInitialisations (after_effect program s t others what)
   effect_initialises_none others effect.Nothing = refl
   effect_initialises_none others (effect.GetField r n) = refl
   effect_initialises_none others (effect.PutField r n v) = put_initialises_none (field_key_at program n)

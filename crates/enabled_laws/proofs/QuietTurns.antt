@@ -15,7 +15,7 @@ use Rattle.enabled_laws.specs.Kept.{Keeps, ends_thread}
 use Rattle.enabled_laws.specs.Quiet.{is_quiet_decision}
 use Rattle.jvms_machine.proofs.ListLaws.{count_by_cons, get_set_same}
 use Rattle.jvms_machine.proofs.TurnSoundness.{decided_is_ready, turn_is_told, turn_keeps}
-use Rattle.jvms_machine.specs.Actions.{affected, applied_to, with_initialisation_frame, changed_to, thread_after_action, items_of, operands_of, with_changed, with_class_constants}
+use Rattle.jvms_machine.specs.Actions.{after_effect, applied_to, with_initialisation_frame, changed_to, thread_after_action, items_of, operands_of, with_changed, with_class_constants}
 use Rattle.jvms_machine.specs.Decisions.{TurnAction, TurnDecision, outcome_of, outcome_of_action}
 use Rattle.jvms_machine.specs.Events.{is_release, releases_between}
 use Rattle.jvms_machine.specs.Limits.{are_limits}
@@ -169,14 +169,14 @@ as_many_starts s made t change = as_many made.threads t change (slice_get made.t
     as_many threads v how None = refl
     as_many threads v how (Some thread) = length-set threads v (how thread)
 
-effect_starts_none : (program : List Class) (s : State) (t : ℕ) (operands : List Value) (what : Effect (List ℕ)) → length (affected program s t operands what).threads ≡ length s.threads → starts_none what ≡ true
+effect_starts_none : (program : List Class) (s : State) (t : ℕ) (operands : List Value) (what : Effect (List ℕ)) → length (after_effect program s t operands what).threads ≡ length s.threads → starts_none what ≡ true
 effect_starts_none program s t operands (effect.Starts r u) same = let longer : length (s.threads ++ new_thread (Some r) ∷ []) ≡ length s.threads + 1 = length-append s.threads (new_thread (Some r) ∷ []) in absurd (omega arith)
 effect_starts_none program s t operands _ same = refl
 
 action_starts_none : (program : List Class) (start : Start) (s : State) (t : ℕ) (act : TurnAction) → length (applied_to program start s t act).threads ≡ length s.threads → starts_no_thread act ≡ true
 unfolding applied_to
 action_starts_none program start s t (action.Reaches what act) same =
-    effect_starts_none program s t (operands_of (slice_get s.threads t)) what (sym (as_many_starts s (affected program s t (operands_of (slice_get s.threads t)) what) t (thread_after_action act)) ∙ same)
+    effect_starts_none program s t (operands_of (slice_get s.threads t)) what (sym (as_many_starts s (after_effect program s t (operands_of (slice_get s.threads t)) what) t (thread_after_action act)) ∙ same)
 action_starts_none program start s t _ same = refl
 
 -- An initialisation that begins pushes a frame, so the initialisations aren't the same.

@@ -4,7 +4,7 @@ use Rattle.enabled_laws.proofs.Kept.{is_over, may_enter, may_lock, may_retake}
 use Rattle.jvms_machine.proofs.EffectSoundness.{depth_is}
 use Rattle.jvms_machine.specs.Activations.{has_depth}
 use Rattle.jvms_machine.specs.Decisions.{TurnDecision, outcome_of, unwound_outcome}
-use Rattle.jvms_machine.specs.Exceptions.{exception_of, raising, throws}
+use Rattle.jvms_machine.specs.Exceptions.{exception_of, raise_decision, throws}
 use Rattle.jvms_machine.specs.Heap.{value_of}
 use Rattle.jvms_machine.specs.Places.{value_size}
 use Rattle.jvms_machine.specs.State.{Frame, MethodFrame, Sound, State, Thread, class_reference, monitor_at, waits_for}
@@ -49,9 +49,9 @@ pub on_if : (b : Bool) (x y : TurnDecision) → readiness x ≡ Some true → re
 on_if true x y first second = first
 on_if false x y first second = second
 
-raising_on : (frames : List Frame) (e : Exception) → readiness (raising frames e) ≡ Some true
-raising_on [] e = refl
-raising_on (f ∷ below) e = refl
+raise_on : (frames : List Frame) (e : Exception) → readiness (raise_decision frames e) ≡ Some true
+raise_on [] e = refl
+raise_on (f ∷ below) e = refl
 
 pub on_or_bad : (b : Bool) (x y : TurnDecision) → readiness x ≡ Some true → readiness y ≡ None → readiness (cond b x y) ≡ ready_or_bad b
 on_or_bad true x y first second = first
@@ -59,7 +59,7 @@ on_or_bad false x y first second = second
 
 pub throws_on : (limits : Limits) (s : State) (thread : Thread) (class : Thrown) → readiness (throws limits s thread class) ≡ Some true
 unfolding throws
-throws_on limits s thread class = raising_on thread.frames (exception_of limits s class)
+throws_on limits s thread class = raise_on thread.frames (exception_of limits s class)
 
 pub popped_on : (last : Bool) → readiness_of (unwound_outcome last) ≡ Some true
 popped_on true = refl

@@ -2,7 +2,7 @@
 use Rattle.enabled_laws.proofs.Heaps.{AreSized, fields_themselves, written_sized}
 use Rattle.enabled_laws.proofs.KnownEffects.{IsKnownAction, IsKnownEffect}
 use Rattle.jvms_file.specs.Descriptors.{field_type, units_of}
-use Rattle.jvms_machine.specs.Actions.{affected, applied_to, operands_of, put_field, put_static, with_exception, with_lock, with_result, with_unlock}
+use Rattle.jvms_machine.specs.Actions.{after_effect, applied_to, operands_of, put_field, put_static, with_exception, with_lock, with_result, with_unlock}
 use Rattle.jvms_machine.specs.Decisions.{TurnAction}
 use Rattle.jvms_machine.specs.Places.{value_size}
 use Rattle.jvms_machine.specs.Start.{Start}
@@ -42,7 +42,7 @@ module _ (program : List Class) (start : Start) (s : State) (t : ℕ) where
   put_static_statics v None size = fields_themselves s.statics
   put_static_statics v (Some key) size = written_sized key v s.statics size
 
-  effect_statics : (operands : List Value) (what : Effect (List ℕ)) → IsKnownEffect program s what → KeepsStatics (affected program s t operands what)
+  effect_statics : (operands : List Value) (what : Effect (List ℕ)) → IsKnownEffect program s what → KeepsStatics (after_effect program s t operands what)
   effect_statics operands (effect.PutField r n v) known = put_field_statics r v (field_key_at program n)
   effect_statics operands (effect.PutStatic n v) known = put_static_statics v (field_key_at program n) known
   effect_statics operands _ known = fields_themselves s.statics

@@ -8,7 +8,7 @@ use Rattle.enabled_laws.proofs.Related.{AsBefore, Asked, IsRelation, WaitsNow}
 use Rattle.enabled_laws.proofs.Turned.{Turned, beside_turned, changed_others, changed_threads, threads_started}
 use Rattle.enabled_laws.specs.Quiet.{is_quiet, is_quiet_effect, is_taking, is_taking_effect}
 use Rattle.jvms_machine.proofs.ListLaws.{appended_within}
-use Rattle.jvms_machine.specs.Actions.{affected, applied_to, with_initialisation_frame, thread_after_action, operands_of, after_wait, with_changed, with_class_constants, with_initialisation, with_lock, with_retaken}
+use Rattle.jvms_machine.specs.Actions.{after_effect, applied_to, with_initialisation_frame, thread_after_action, operands_of, after_wait, with_changed, with_class_constants, with_initialisation, with_lock, with_retaken}
 use Rattle.jvms_machine.specs.Decisions.{TurnAction}
 use Rattle.jvms_machine.specs.Monitors.{entered_monitor}
 use Rattle.jvms_machine.specs.Start.{Start}
@@ -80,7 +80,7 @@ module _ (program : List Class) (start : Start) (s : State) (t : ℕ) (own : Thr
   abbrev Takes : State → Type 0
   Takes after = Turned Backward backward t s after
 
-  effect_takes : (what : Effect (List ℕ)) (act : FrameAction) (others : List Value) → is_taking_effect what ≡ true → is_quiet_effect what ≡ false → Takes (with_changed (affected program s t others what) t (thread_after_action act))
+  effect_takes : (what : Effect (List ℕ)) (act : FrameAction) (others : List Value) → is_taking_effect what ≡ true → is_quiet_effect what ≡ false → Takes (with_changed (after_effect program s t others what) t (thread_after_action act))
   effect_takes (effect.Locks monitor) act others takes loud =
       beside_turned Backward backward s _ t (thread_after_action act) own at (beside_heap s _ refl refl) refl (λ on. on) (λ v r _. entered_backward t monitor.reference (monitor_at s.monitors monitor.reference) s.monitors refl v r) refl
   effect_takes (effect.Starts q w) act others takes loud =

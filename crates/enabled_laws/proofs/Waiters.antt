@@ -1,7 +1,7 @@
 -- An action keeps whether another thread awaits its notification, or the thread's monitor is held.
 use Rattle.enabled_laws.proofs.Kept.{WaitStays}
 use Rattle.enabled_laws.proofs.KnownEffects.{IsKnownAction, IsKnownEffect}
-use Rattle.jvms_machine.specs.Actions.{affected, applied_to, after_end, thread_after_action, operands_of, put_field, put_static, with_changed, with_class_constants, with_exception, with_lock, with_result, with_unlock}
+use Rattle.jvms_machine.specs.Actions.{after_effect, applied_to, after_end, thread_after_action, operands_of, put_field, put_static, with_changed, with_class_constants, with_exception, with_lock, with_result, with_unlock}
 use Rattle.jvms_machine.specs.Decisions.{TurnAction}
 use Rattle.jvms_machine.specs.Start.{Start}
 use Rattle.jvms_machine.specs.State.{AreWaiters, State, Thread, is_wait_for, monitor_at, waits_for}
@@ -83,10 +83,10 @@ module _ (program : List Class) (start : Start) (s : State) (t v r : ℕ) (other
       (λ (apart : (q == r) ≡ false). inl (ap (is_waiter v) waiters_are ∙ notified_waiter s.threads q v r waits apart all s.waiters are))
       (cases_Bool (q == r))
 
-  effect_waits : (operands : List Value) (what : Effect (List ℕ)) (change : Thread → Thread) → IsKnownEffect program s what → WaitStays s (with_changed (affected program s t operands what) t change) v r
+  effect_waits : (operands : List Value) (what : Effect (List ℕ)) (change : Thread → Thread) → IsKnownEffect program s what → WaitStays s (with_changed (after_effect program s t operands what) t change) v r
   effect_waits operands (effect.PutField q n x) change known = inl (ap (is_waiter v) (put_field_waiters q x (field_key_at program n)))
   effect_waits operands (effect.PutStatic n x) change known = inl (ap (is_waiter v) (put_static_waiters x (field_key_at program n)))
-  effect_waits operands (effect.Notifies q all) change known = notified_stays q all (with_changed (affected program s t operands (effect.Notifies q all)) t change) refl refl known
+  effect_waits operands (effect.Notifies q all) change known = notified_stays q all (with_changed (after_effect program s t operands (effect.Notifies q all)) t change) refl refl known
   effect_waits operands _ change known = inl refl
 
   constants_waiters : (o : Option Class) → (with_class_constants s o).waiters ≡ s.waiters

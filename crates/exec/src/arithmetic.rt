@@ -3,7 +3,7 @@
 ghost use Rattle.std.specs.Prelude.{◌≡◌};
 ghost use Rattle.jvms_file.specs.declared.insn.IntInsn.TheVariants as int_insn;
 ghost use Rattle.jvms_machine.specs.Activations.{HasRoom, IfDoes};
-ghost use Rattle.jvms_machine.specs.Arithmetic.{int_decision, converted};
+ghost use Rattle.jvms_machine.specs.Arithmetic.{int_decision, conversion_result};
 
 use crate::decisions::pushes;
 use frames::SeenFrame;
@@ -62,7 +62,7 @@ fn negate(frame: &SeenFrame) -> FrameDecision
 
 #[inline(always)]
 fn convert(to: insn::Conversion, n: i32) -> i32
-    ensures { result ≡ converted to n }
+    ensures { result ≡ conversion_result to n }
 {
     match to {
         insn::Conversion::ToByte => jvm_num::narrow(insn::Narrow::Byte, n),

@@ -2,7 +2,7 @@
 
 ghost use Rattle.std.specs.Prelude.{◌≡◌};
 ghost use Rattle.jvms_machine.specs.Activations.{HasRoom, IfDoes};
-ghost use Rattle.jvms_machine.specs.Constants.{pushed, push_decision, constant_decision};
+ghost use Rattle.jvms_machine.specs.Constants.{pushes_value, push_decision, constant_decision};
 
 use crate::decisions::pushes;
 use crate::places::value_size;
@@ -15,7 +15,7 @@ use jvms_program::program::Loadable;
 
 #[inline(always)]
 fn push_value(value: Value, frame: &SeenFrame) -> FrameDecision
-    ensures decision { result ≡ pushed frame.now.body frame.now.activation value }
+    ensures decision { result ≡ pushes_value frame.now.body frame.now.activation value }
     ensures room { IfDoes result (HasRoom frame.now.body frame.now.activation) }
 {
     if frame.has_depth(0, value_size(value)) {
@@ -28,7 +28,7 @@ fn push_value(value: Value, frame: &SeenFrame) -> FrameDecision
 /// Decides to push an int.
 #[inline(always)]
 pub(crate) fn push_int(n: i32, frame: &SeenFrame) -> FrameDecision
-    ensures decision { result ≡ pushed frame.now.body frame.now.activation (Value.Int n) }
+    ensures decision { result ≡ pushes_value frame.now.body frame.now.activation (Value.Int n) }
     ensures room { IfDoes result (HasRoom frame.now.body frame.now.activation) }
 {
     push_value(Value::Int(n), frame)
@@ -37,7 +37,7 @@ pub(crate) fn push_int(n: i32, frame: &SeenFrame) -> FrameDecision
 /// Decides to push a long.
 #[inline(always)]
 pub(crate) fn push_long(n: i64, frame: &SeenFrame) -> FrameDecision
-    ensures decision { result ≡ pushed frame.now.body frame.now.activation (Value.Long n) }
+    ensures decision { result ≡ pushes_value frame.now.body frame.now.activation (Value.Long n) }
     ensures room { IfDoes result (HasRoom frame.now.body frame.now.activation) }
 {
     push_value(Value::Long(n), frame)

@@ -2,7 +2,7 @@
 
 ghost use Rattle.std.specs.Prelude.{◌≡◌, ◌≤◌, ◌+◌, ◌-◌, length, Some};
 ghost use Rattle.jvms_file.specs.declared.insn.StackForm.TheVariants as form;
-ghost use Rattle.jvms_machine.specs.Activations.{form_takes, form_gives, rearranged, HasRoom, IfDoes};
+ghost use Rattle.jvms_machine.specs.Activations.{form_takes, form_gives, rearranged_operands, HasRoom, IfDoes};
 ghost use Rattle.jvms_machine.specs.Stack.{stack_decision, is_second, is_set, are_set, parts_a_long};
 ghost use Rattle.frames.specs.Frame.{with_operands};
 ghost use Rattle.frames.specs.Open.{open_frame, IsOpen};
@@ -170,7 +170,7 @@ pub(crate) fn rearrange(form: StackForm, head: &mut Head, values: &mut [Value])
         - form_takes form + form_gives form ≤ (open_frame head.old values.old).body.max_stack }
     ensures fits { IsOpen head.new values.new }
     ensures frame { open_frame head.new values.new ≡ with_operands (open_frame head.old values.old)
-        (rearranged form (open_frame head.old values.old).activation.operands) }
+        (rearranged_operands form (open_frame head.old values.old).activation.operands) }
 {
     match form {
         StackForm::Pop => head.drop_operands(values, 1),
@@ -193,7 +193,7 @@ struct Rearrangement {
 
 impl OpenWork<(), ()> for Rearrangement {
     ghost use Rattle.std.specs.Prelude.{◌≡◌, ◌≤◌, ◌+◌, ◌-◌, length};
-    ghost use Rattle.jvms_machine.specs.Activations.{form_takes, form_gives, rearranged};
+    ghost use Rattle.jvms_machine.specs.Activations.{form_takes, form_gives, rearranged_operands};
     ghost use Rattle.frames.specs.Frame.{with_operands};
 
     type Output = ();
@@ -203,7 +203,7 @@ impl OpenWork<(), ()> for Rearrangement {
         ≤ f.body.max_stack) };
 
     ghost does = { λ w f _ _ _ g _ _. g
-        ≡ with_operands f (rearranged w.form f.activation.operands) };
+        ≡ with_operands f (rearranged_operands w.form f.activation.operands) };
 
     #[inline(always)]
     fn run(self, head: &mut Head<'_>, values: &mut [Value], _first: &mut (), _second: &mut ()) {
@@ -218,7 +218,8 @@ pub(crate) fn rearrange_frame(form: StackForm, frame: &mut Frame)
     requires there { form_takes form ≤ length frame.old.activation.operands }
     requires room { length frame.old.activation.operands - form_takes form + form_gives form
         ≤ frame.old.body.max_stack }
-    ensures { frame.new ≡ with_operands frame.old (rearranged form frame.old.activation.operands) }
+    ensures { frame.new
+        ≡ with_operands frame.old (rearranged_operands form frame.old.activation.operands) }
 {
     frame.open_for(Rearrangement { form }, &mut (), &mut ());
 }
@@ -231,7 +232,7 @@ fn dup(head: &mut Head, values: &mut [Value])
         ≤ (open_frame head.old values.old).body.max_stack }
     ensures fits { IsOpen head.new values.new }
     ensures frame { open_frame head.new values.new ≡ with_operands (open_frame head.old values.old)
-        (rearranged form.Dup (open_frame head.old values.old).activation.operands) }
+        (rearranged_operands form.Dup (open_frame head.old values.old).activation.operands) }
 {
     let a = head.seen(values).top();
     head.push(values, a);
@@ -245,7 +246,7 @@ fn dup_x1(head: &mut Head, values: &mut [Value])
         ≤ (open_frame head.old values.old).body.max_stack }
     ensures fits { IsOpen head.new values.new }
     ensures frame { open_frame head.new values.new ≡ with_operands (open_frame head.old values.old)
-        (rearranged form.DupX1 (open_frame head.old values.old).activation.operands) }
+        (rearranged_operands form.DupX1 (open_frame head.old values.old).activation.operands) }
 {
     let (a, b) = head.seen(values).top_two();
     head.drop_operands(values, 2);
@@ -262,7 +263,7 @@ fn dup_x2(head: &mut Head, values: &mut [Value])
         ≤ (open_frame head.old values.old).body.max_stack }
     ensures fits { IsOpen head.new values.new }
     ensures frame { open_frame head.new values.new ≡ with_operands (open_frame head.old values.old)
-        (rearranged form.DupX2 (open_frame head.old values.old).activation.operands) }
+        (rearranged_operands form.DupX2 (open_frame head.old values.old).activation.operands) }
 {
     let (a, b, c) = head.seen(values).top_three();
     head.drop_operands(values, 3);
@@ -280,7 +281,7 @@ fn dup2(head: &mut Head, values: &mut [Value])
         ≤ (open_frame head.old values.old).body.max_stack }
     ensures fits { IsOpen head.new values.new }
     ensures frame { open_frame head.new values.new ≡ with_operands (open_frame head.old values.old)
-        (rearranged form.Dup2 (open_frame head.old values.old).activation.operands) }
+        (rearranged_operands form.Dup2 (open_frame head.old values.old).activation.operands) }
 {
     let (a, b) = head.seen(values).top_two();
     head.push(values, a);
@@ -295,7 +296,7 @@ fn dup2_x1(head: &mut Head, values: &mut [Value])
         ≤ (open_frame head.old values.old).body.max_stack }
     ensures fits { IsOpen head.new values.new }
     ensures frame { open_frame head.new values.new ≡ with_operands (open_frame head.old values.old)
-        (rearranged form.Dup2X1 (open_frame head.old values.old).activation.operands) }
+        (rearranged_operands form.Dup2X1 (open_frame head.old values.old).activation.operands) }
 {
     let (a, b, c) = head.seen(values).top_three();
     head.drop_operands(values, 3);
@@ -314,7 +315,7 @@ fn dup2_x2(head: &mut Head, values: &mut [Value])
         ≤ (open_frame head.old values.old).body.max_stack }
     ensures fits { IsOpen head.new values.new }
     ensures frame { open_frame head.new values.new ≡ with_operands (open_frame head.old values.old)
-        (rearranged form.Dup2X2 (open_frame head.old values.old).activation.operands) }
+        (rearranged_operands form.Dup2X2 (open_frame head.old values.old).activation.operands) }
 {
     let (a, b, c, d) = head.seen(values).top_four();
     head.drop_operands(values, 4);
@@ -334,7 +335,7 @@ fn swap(head: &mut Head, values: &mut [Value])
         ≤ (open_frame head.old values.old).body.max_stack }
     ensures fits { IsOpen head.new values.new }
     ensures frame { open_frame head.new values.new ≡ with_operands (open_frame head.old values.old)
-        (rearranged form.Swap (open_frame head.old values.old).activation.operands) }
+        (rearranged_operands form.Swap (open_frame head.old values.old).activation.operands) }
 {
     let (a, b) = head.seen(values).top_two();
     head.drop_operands(values, 2);

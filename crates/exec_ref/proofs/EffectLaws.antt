@@ -9,7 +9,7 @@ use Rattle.jvms_machine.specs.State.{Object, instance, array, text, class_object
 use Rattle.jvms_machine.specs.Arrays.{counted_lengths}
 use Rattle.jvms_machine.specs.Heap.{has_dimensions, with_value}
 use Rattle.jvms_machine.proofs.ArraySoundness.{lengths_taken}
-use Rattle.heap.specs.Objects.{asked, units_of, HasDimensions}
+use Rattle.heap.specs.Objects.{object_part, units_of, HasDimensions}
 use Rattle.heap.specs.Statics.{Statics}
 use Rattle.heap.proofs.DimensionLaws.{dimensions_are}
 use Rattle.printing.specs.Strings as strings
@@ -22,7 +22,7 @@ same_units (Some (text units)) = refl
 same_units (Some (class_object name)) = refl
 
 -- The units of the printed string.
-pub the_string : (heap : List Object) (r : ℕ) (units : Option (List ℕ)) → units ≡ asked units_of heap r → units ≡ strings.units_of (object_at heap r)
+pub the_string : (heap : List Object) (r : ℕ) (units : Option (List ℕ)) → units ≡ object_part units_of heap r → units ≡ strings.units_of (object_at heap r)
 the_string heap r units is = is ∙ same_units (object_at heap r)
 
 -- The lengths of nested arrays fit the dimensions of their class.

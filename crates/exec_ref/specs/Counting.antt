@@ -12,8 +12,9 @@ use Rattle.jvms_machine.specs.Decisions.{TurnDecision, bad}
 use Rattle.jvms_machine.specs.Exceptions.{throws}
 use Rattle.jvms_machine.specs.Arrays.{is_int, is_negative, length_of_value, new_arrays_room}
 
-abbrev pub capped : ℕ → ℕ
-capped n = if nat_lt 0x100000000 n then 0x100000000 else n
+-- Returns a count, or 2^32 if it is more. No limit allows as many.
+abbrev pub capped_count : ℕ → ℕ
+capped_count n = if nat_lt 0x100000000 n then 0x100000000 else n
 
 -- Returns the decision on arrays of these lengths, the outermost first.
 abbrev pub lengths_decision : List Class → Limits → State → Thread → List ℕ → ℕ → List Value → TurnDecision

@@ -1,7 +1,7 @@
 //! Arrays (JVMS 6.5 newarray, anewarray, multianewarray, arraylength, and the loads and stores of arrays).
 
 ghost use Rattle.std.specs.Prelude.{◌≡◌, ◌+◌, ◌<◌, ◌^◌, IsTrue, length};
-ghost use Rattle.jvms_machine.specs.Arrays.{if_deep, making, length_decision, new_array_decision, new_class_array_decision, array_length_decision, array_decision};
+ghost use Rattle.jvms_machine.specs.Arrays.{if_deep, creation_decision, length_decision, new_array_decision, new_class_array_decision, array_length_decision, array_decision};
 ghost use Rattle.jvms_machine.specs.Heap.{has_room_for_elements};
 ghost use Rattle.exec_ref.specs.Asked.{reference_length_decision};
 ghost use Rattle.machine_parts.specs.Decided.{decision_value, object_value, text_of};
@@ -34,13 +34,14 @@ pub(crate) fn has_room_for_elements(parts: &Parts, objects: usize, elements: usi
 }
 
 /// Returns the decision to create an object that replaces the topmost `takes` operands.
-pub(crate) fn making<'p>(
+pub(crate) fn creation_decision<'p>(
     parts: &Parts<'p>,
     takes: u8,
     what: NewObject<ActionText<'p>>,
 ) -> Decided<'p>
     requires { length parts.now.state.heap + 1 < 2 ^ 32 }
-    ensures { decision_value result ≡ making parts.now.state takes (object_value what.entry) }
+    ensures { decision_value result
+        ≡ creation_decision parts.now.state takes (object_value what.entry) }
 {
     let value = Value::Reference(parts.heap.count() as u32 + 1);
     reaches(Effect::Creates(what), FrameAction::Push { takes, value })
@@ -64,7 +65,7 @@ fn length_decision<'p>(
     if !has_room_for_elements(parts, 1, length as usize) {
         return parts.throws(thread, Thrown::OutOfMemoryError);
     }
-    making(parts, 1, NewObject::Array { class, length })
+    creation_decision(parts, 1, NewObject::Array { class, length })
 }
 
 /// Decides JVMS 6.5 `newarray`.

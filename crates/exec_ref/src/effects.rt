@@ -3,7 +3,7 @@
 ghost use Rattle.std.specs.Prelude.{◌≡◌, [], IsOk, OnOk, OnErr, option_copied, slice_get};
 ghost use Rattle.jvms_machine.specs.declared.action.Action.TheVariants as action;
 ghost use Rattle.jvms_machine.specs.declared.action.Effect.TheVariants as effects;
-ghost use Rattle.jvms_machine.specs.Actions.{affected, put_field, put_static, operands_of, items_of, effect_items};
+ghost use Rattle.jvms_machine.specs.Actions.{after_effect, put_field, put_static, operands_of, items_of, effect_items};
 ghost use Rattle.jvms_machine.specs.Output.{line_bytes};
 ghost use Rattle.jvms_program.specs.Program.{field_key_at};
 ghost use Rattle.jvms_machine.specs.Turn.{CanBeMade, IsReady};
@@ -65,7 +65,7 @@ fn put<'p>(parts: &mut Parts<'p>, t: ThreadId, effect: Effect<ActionText<'p>>)
     requires makeable { CanBeMade parts.old.state
         (operands_of (slice_get parts.old.state.threads t)) (effect_value effect) }
     requires puts { PutsAtMost (effect_value effect) }
-    ensures { parts.new ≡ with_state parts.old (affected parts.old.program parts.old.state t
+    ensures { parts.new ≡ with_state parts.old (after_effect parts.old.program parts.old.state t
         (operands_of (slice_get parts.old.state.threads t)) (effect_value effect.entry)) }
 {
     match effect {
@@ -87,7 +87,7 @@ fn put<'p>(parts: &mut Parts<'p>, t: ThreadId, effect: Effect<ActionText<'p>>)
 /// Prints a value, and ends the line if `ends_line` is set. If there is no memory, nothing changes.
 fn print(parts: &mut Parts, what: Printed, ends_line: bool) -> Result<(), AllocError>
     ensures ok { OnOk result (parts.new ≡ with_state parts.old
-        (affected parts.old.program parts.old.state 0 [] (effects.Prints what ends_line))) }
+        (after_effect parts.old.program parts.old.state 0 [] (effects.Prints what ends_line))) }
     ensures err { OnErr result (parts.new ≡ parts.old) }
     ensures none { line_bytes parts.old.state.heap what ends_line ≡ [] → IsOk result }
 {
@@ -104,7 +104,7 @@ fn start_thread(
     trace: &mut Recording,
 ) -> Result<(), AllocError>
     ensures state { OnOk result (parts.new ≡ with_state parts.old
-        (affected parts.old.program parts.old.state t [] (effects.Starts reference started))) }
+        (after_effect parts.old.program parts.old.state t [] (effects.Starts reference started))) }
     ensures items { OnOk result (trace.new ≡ with_items trace.old
         (effect_items parts.old.program t (effects.Starts reference started))) }
     ensures kept { OnErr result (parts.new ≡ parts.old) }
@@ -153,7 +153,7 @@ fn affect<'p>(
     requires { CanBeMade parts.old.state
         (operands_of (slice_get parts.old.state.threads t)) (effect_value effect) }
     ensures state { OnOk result
-        (parts.new ≡ with_state parts.old (affected parts.old.program parts.old.state t
+        (parts.new ≡ with_state parts.old (after_effect parts.old.program parts.old.state t
         (operands_of (slice_get parts.old.state.threads t)) (effect_value effect.entry))) }
     ensures items { OnOk result (trace.new
         ≡ with_items trace.old (effect_items parts.old.program t (effect_value effect.entry))) }

@@ -5,7 +5,7 @@ ghost use Rattle.jvms_machine.specs.declared.trace.Item.TheVariants as item;
 ghost use Rattle.jvms_machine.specs.Actions.{event, effect_items, instance_variable, static_variable};
 ghost use Rattle.jvms_program.specs.Program.{field_key_at};
 ghost use Rattle.machine_parts.specs.Decided.{effect_value};
-ghost use Rattle.machine_parts.specs.Marks.{listed};
+ghost use Rattle.machine_parts.specs.Marks.{item_list};
 ghost use Rattle.exec_ref.specs.Events.{event_key};
 
 use jvms_machine::action::Effect;
@@ -38,7 +38,7 @@ fn field_key(program: &Program, n: FieldNumber) -> Result<Option<FieldKey>, Allo
 /// Returns the item of a read of a variable.
 #[inline(always)]
 fn read_of(thread: ThreadId, variable: Option<Variable>) -> Option<Item>
-    ensures { listed result ≡ event (λ v. item.Read thread v) variable }
+    ensures { item_list result ≡ event (λ v. item.Read thread v) variable }
 {
     let variable = variable?;
     Some(Item::Read { thread, variable })
@@ -47,7 +47,7 @@ fn read_of(thread: ThreadId, variable: Option<Variable>) -> Option<Item>
 /// Returns the item of a write of a variable.
 #[inline(always)]
 fn write_of(thread: ThreadId, variable: Option<Variable>) -> Option<Item>
-    ensures { listed result ≡ event (λ v. item.Write thread v) variable }
+    ensures { item_list result ≡ event (λ v. item.Write thread v) variable }
 {
     let variable = variable?;
     Some(Item::Write { thread, variable })
@@ -101,7 +101,7 @@ pub(crate) fn effect_item<'p>(
     effect: Effect<ActionText<'p>>,
 ) -> Result<Option<Item>, AllocError>
     ensures item { IfOk result
-        (λ item. listed item ≡ effect_items parts.now.program t (effect_value effect.entry)) }
+        (λ item. item_list item ≡ effect_items parts.now.program t (effect_value effect.entry)) }
     ensures none { effect_items parts.now.program t (effect_value effect.entry) ≡ [] → IsOk result }
 {
     match effect {

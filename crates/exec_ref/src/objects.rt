@@ -8,7 +8,7 @@ ghost use Rattle.jvms_program.specs.Program.{class_named, class_number};
 ghost use Rattle.jvms_machine.specs.Decisions.{TurnDecision};
 ghost use Rattle.jvms_machine.specs.Arrays.{if_deep};
 ghost use Rattle.jvms_machine.specs.Objects.{is_instantiable, creation_if_room, instance_of_number, new_instance_decision, with_class_of, cast, instance_test_result, existing_or_new, class_decision, loadable_decision};
-ghost use Rattle.jvms_machine.specs.Fields.{reaches, taking};
+ghost use Rattle.jvms_machine.specs.Fields.{reaches, next_action};
 ghost use Rattle.jvms_machine.specs.declared.value.Value.TheVariants as value;
 ghost use Rattle.jvms_machine.specs.declared.action.Effect.TheVariants as effect;
 ghost use Rattle.jvms_machine.specs.declared.action.NewObject.TheVariants as new_object;
@@ -18,7 +18,7 @@ ghost use Rattle.machine_parts.specs.Decided.{decision_value, object_value};
 ghost use Rattle.machine_parts.specs.Sites.{IsSite};
 ghost use Rattle.exec_ref.specs.InstanceTests.{by_instance_test};
 
-use crate::arrays::{making, new_class_array_decision};
+use crate::arrays::{creation_decision, new_class_array_decision};
 use frames::Frame;
 use jvms_file::insn::ClassUse;
 use jvms_machine::action::{Effect, FrameAction, NewObject};
@@ -27,7 +27,7 @@ use jvms_machine::value::Value;
 use jvms_program::number::ClassNumber;
 use jvms_program::program::{Class, ClassKind, Loadable};
 use jvms_program::thrown::Thrown;
-use machine_parts::{ActionText, Decided, Parts, bad, has_depth, never_seen, reaches, taking};
+use machine_parts::{ActionText, Decided, Parts, bad, has_depth, never_seen, next_action, reaches};
 use machine_thread::Thread;
 use shared_data::shared::Text;
 
@@ -71,7 +71,7 @@ fn creation_if_room<'p>(
         (object_value what.entry) }
 {
     if parts.has_room() {
-        making(parts, takes, what)
+        creation_decision(parts, takes, what)
     } else {
         parts.throws(thread, Thrown::OutOfMemoryError)
     }
@@ -87,7 +87,7 @@ fn instance_of_number<'p>(
     ensures { decision_value result ≡ instance_of_number parts.now.program
         parts.now.limits parts.now.state t thread.now (Some class) }
 {
-    match parts.asking(t, thread, class) {
+    match parts.class_use_decision(t, thread, class) {
         Some(decision) => decision,
         None => creation_if_room(parts, thread, 0, NewObject::Instance { class }),
     }
@@ -178,7 +178,7 @@ fn cast_decision<'p>(parts: &Parts<'p>, thread: &Thread, frame: &Frame, name: &[
     requires { frame.now.activation.place + 1 < 2 ^ 64 }
     ensures { decision_value result ≡ if_deep frame.now 1 1
         (with_class_of parts.now.program parts.now.limits parts.now.state thread.now name.now
-        frame.now.activation.operands (reaches effect.Nothing (taking 0 frame.now.activation))
+        frame.now.activation.operands (reaches effect.Nothing (next_action 0 frame.now.activation))
         (cast parts.now.limits parts.now.state thread.now frame.now)) }
 {
     if !has_depth(frame, 1, 1) {
@@ -188,7 +188,7 @@ fn cast_decision<'p>(parts: &Parts<'p>, thread: &Thread, frame: &Frame, name: &[
         InstanceTest::Stops(decision) => decision,
         InstanceTest::Null | InstanceTest::IsInstance(true) => reaches(
             Effect::Nothing,
-            taking(0, frame),
+            next_action(0, frame),
         ),
         InstanceTest::IsInstance(false) => parts.throws(thread, Thrown::ClassCastException),
     }

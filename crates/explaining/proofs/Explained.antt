@@ -8,7 +8,7 @@ use Rattle.jvms_machine.specs.declared.machine.Entry.{Entry}
 use Rattle.jvms_machine.specs.declared.machine.Limits.{Limits}
 use Rattle.jvms_machine.specs.Opening.{StartFault, start_of_entry}
 use Rattle.jvms_machine.specs.Start.{Start}
-use Rattle.machine.specs.Started.{opened}
+use Rattle.machine.specs.Started.{opened_machine}
 use Rattle.schedule.specs.Choosers.{Chooser}
 use Rattle.velodrome.specs.Specification.{Specification}
 use Rattle.program_runs.specs.declared.feeding.Judgement.{Judgement}
@@ -21,21 +21,21 @@ use Rattle.explaining.specs.Explanations.{program_explanation, run_explanation}
 -- The run that is shown starts with the machine of this start.
 same_run : (most : ℕ) (chooser : Chooser) (limits : Limits) (program : List Class) (entry : Entry) (start : Start) (shown : Shown)
     → start_of_entry program limits entry ≡ Ok start → view_of_program most chooser limits program entry ≡ Ok shown
-    → view_of_run most chooser (opened program limits start) ≡ shown
+    → view_of_run most chooser (opened_machine program limits start) ≡ shown
 unfolding view_of_program
 same_run most chooser limits program entry start shown is shows =
-    let both : Ok (view_of_run most chooser (opened program limits start)) ≡ Ok shown =
-    sym (ap (λ r. r >>= λ s. Ok (view_of_run most chooser (opened program limits s))) is) ∙ shows in cc
+    let both : Ok (view_of_run most chooser (opened_machine program limits start)) ≡ Ok shown =
+    sym (ap (λ r. r >>= λ s. Ok (view_of_run most chooser (opened_machine program limits s))) is) ∙ shows in cc
 
 -- The explanation of the run.
 pub is_explanation : (first : ℕ) (files : List ClassFile) (lines : Option Specification) (j : Option Judgement) (most : ℕ) (chooser : Chooser) (limits : Limits) (program : List Class) (entry : Entry) (start : Start) (shown : Shown) (text : List ℕ)
     → start_of_entry program limits entry ≡ Ok start → view_of_program most chooser limits program entry ≡ Ok shown
-    → text ≡ run_explanation first files lines j (opened program limits start) shown
+    → text ≡ run_explanation first files lines j (opened_machine program limits start) shown
     → program_explanation first files lines j most chooser limits program entry ≡ Ok text
 unfolding program_explanation
 is_explanation first files lines j most chooser limits program entry start shown text is shows told =
-    ap (λ r. r >>= λ s. Ok (run_explanation first files lines j (opened program limits s) (view_of_run most chooser (opened program limits s)))) is
-    ∙ ap (λ x. Ok (run_explanation first files lines j (opened program limits start) x)) (same_run most chooser limits program entry start shown is shows)
+    ap (λ r. r >>= λ s. Ok (run_explanation first files lines j (opened_machine program limits s) (view_of_run most chooser (opened_machine program limits s)))) is
+    ∙ ap (λ x. Ok (run_explanation first files lines j (opened_machine program limits start) x)) (same_run most chooser limits program entry start shown is shows)
     ∙ ap Ok (sym told)
 
 -- How the run ended.

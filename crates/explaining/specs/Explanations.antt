@@ -12,7 +12,7 @@ use Rattle.jvms_machine.specs.declared.trace.Item.{Item}
 use Rattle.jvms_machine.specs.Opening.{StartFault, start_of_entry}
 use Rattle.machine.specs.Machine.{Machine, with_state}
 use Rattle.machine.specs.Runs.{run_of}
-use Rattle.machine.specs.Started.{opened}
+use Rattle.machine.specs.Started.{opened_machine}
 use Rattle.machine_text.specs.Threads.{threads_text}
 use Rattle.schedule.specs.Choosers.{Chooser}
 use Rattle.velodrome.specs.Specification.{Specification}
@@ -65,7 +65,7 @@ run_explanation first files lines j m shown =
 unfoldable pub program_explanation : ℕ → List ClassFile → Option Specification → Option Judgement → ℕ → Chooser → Limits → List Class → Entry → Result (List ℕ) StartFault
 program_explanation first files lines j most chooser limits program entry = do
   start ← start_of_entry program limits entry
-  Ok (run_explanation first files lines j (opened program limits start) (view_of_run most chooser (opened program limits start)))
+  Ok (run_explanation first files lines j (opened_machine program limits start) (view_of_run most chooser (opened_machine program limits start)))
 
 -- Returns the explanation for the program of inputs. Its last classes are those of the inputs.
 unfoldable pub explanation_of_inputs : Option Specification → Option Judgement → ℕ → Chooser → Limits → List Input → Entry → Result (List ℕ) NotRun

@@ -4,7 +4,7 @@ ghost use Rattle.std.specs.Prelude.{◌≡◌, List, ℕ, IfOk, Ok};
 ghost use Rattle.std.specs.String.{string_bytes};
 ghost use Rattle.jvms_machine.specs.Opening.{start_of_entry};
 ghost use Rattle.jvms_machine.specs.Start.{Start};
-ghost use Rattle.machine.specs.Started.{opened};
+ghost use Rattle.machine.specs.Started.{opened_machine};
 ghost use Rattle.explaining.specs.EventTurns.{event_turns};
 ghost use Rattle.explaining.specs.Explanations.{is_stuck, stuck_lines, threads_part};
 
@@ -85,9 +85,10 @@ pub(crate) fn replay(
 ) -> Result<Replayed, MachineFault>
     ensures { IfOk result (λ r. (start : Start)
         × (start_of_entry program.now limits entry.now ≡ Ok start)
-        × (r.events.items ≡ event_turns 1 (opened program.now limits start) choices.now)
+        × (r.events.items ≡ event_turns 1 (opened_machine program.now limits start) choices.now)
         × (string_bytes r.lines ≡ stuck_lines sources.now.first sources.now.files.now
-        (opened program.now limits start) choices.now ending.now.uncaught ending.now.status)) }
+        (opened_machine program.now limits start) choices.now ending.now.uncaught
+        ending.now.status)) }
 {
     let mut machine = Machine::new(alloc, program, limits, entry)?;
     let replayed = replay_on(alloc, &mut machine, sources, choices, ending);

@@ -17,8 +17,8 @@ abbrev pub class_at : List Object → ℕ → Option (List ℕ)
 class_at heap r = option_map class_of (object_at heap r)
 
 -- Returns a part of the object of a reference.
-abbrev pub asked : {A : Type 0} → (Object → Option A) → List Object → ℕ → Option A
-asked {A} part heap r = option_and_then part (object_at heap r)
+abbrev pub object_part : {A : Type 0} → (Object → Option A) → List Object → ℕ → Option A
+object_part {A} part heap r = option_and_then part (object_at heap r)
 
 -- The reference is that of an object, and this holds for it.
 abbrev pub IfThere : (Object → Type 0) → Option Object → Type 0

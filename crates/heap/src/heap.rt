@@ -6,7 +6,7 @@ ghost use Rattle.jvms_program.specs.declared.key.FieldKey.{FieldKey};
 ghost use Rattle.jvms_machine.specs.declared.value.Value.{Value};
 ghost use Rattle.jvms_machine.specs.State.{instance, instance_fields, keys, object_at, text_reference, class_reference};
 ghost use Rattle.jvms_machine.specs.Heap.{array_of_type, with_element, with_object};
-ghost use Rattle.heap.specs.Objects.{IfThere, Loads, Stores, Suits, class_at, asked, instance_class, array_class, length_of, element_of, units_of, named_by, value_in, with_slot};
+ghost use Rattle.heap.specs.Objects.{IfThere, Loads, Stores, Suits, class_at, object_part, instance_class, array_class, length_of, element_of, units_of, named_by, value_in, with_slot};
 ghost use Rattle.heap.specs.Stored.{name_at, object_of, IsKept};
 
 use crate::primitive_arrays::PrimitiveArrays;
@@ -116,14 +116,15 @@ impl<'p> Heap<'p> {
     /// Returns the number of the class of an instance.
     pub fn instance_class(&self, reference: u32) -> Option<ClassNumber>
         ensures { option_map (name_at self.now.program) result
-            ≡ asked instance_class self.now.objects reference }
+            ≡ object_part instance_class self.now.objects reference }
     {
         self.object(reference)?.instance_class()
     }
 
     /// Returns the class of an array.
     pub fn array_class(&self, reference: u32) -> Option<&Text>
-        ensures { option_map (λ c. c.now) result ≡ asked array_class self.now.objects reference }
+        ensures { option_map (λ c. c.now) result
+            ≡ object_part array_class self.now.objects reference }
     {
         self.object(reference)?.array_class()
     }
@@ -131,7 +132,7 @@ impl<'p> Heap<'p> {
     /// Returns the number of elements of an array.
     #[inline(always)]
     pub fn array_length(&self, reference: u32) -> Option<usize>
-        ensures count { result ≡ asked length_of self.now.objects reference }
+        ensures count { result ≡ object_part length_of self.now.objects reference }
         // A length is an int.
         ensures few { IfSome result (λ length. length < 2 ^ 31) }
     {
@@ -141,7 +142,7 @@ impl<'p> Heap<'p> {
     /// Returns an element of an array.
     #[inline(always)]
     pub fn element(&self, reference: u32, index: usize) -> Option<Value>
-        ensures { result ≡ asked (element_of index) self.now.objects reference }
+        ensures { result ≡ object_part (element_of index) self.now.objects reference }
     {
         self.object(reference)?.element(index)
     }
@@ -180,7 +181,7 @@ impl<'p> Heap<'p> {
     /// Returns the value of an instance's field, by its slot.
     #[inline(always)]
     pub fn field(&self, reference: u32, slot: usize) -> Option<Value>
-        ensures { result ≡ asked (value_in slot) self.now.objects reference }
+        ensures { result ≡ object_part (value_in slot) self.now.objects reference }
     {
         self.object(reference)?.value(slot)
     }
@@ -188,14 +189,15 @@ impl<'p> Heap<'p> {
     /// Returns the units of a string.
     pub fn units_of(&self, reference: u32) -> Option<&Text>
         ensures { option_map (λ units. units.now) result
-            ≡ asked units_of self.now.objects reference }
+            ≡ object_part units_of self.now.objects reference }
     {
         self.object(reference)?.units()
     }
 
     /// Returns the name of the class of a class object.
     pub fn name_of(&self, reference: u32) -> Option<&Text>
-        ensures { option_map (λ name. name.now) result ≡ asked named_by self.now.objects reference }
+        ensures { option_map (λ name. name.now) result
+            ≡ object_part named_by self.now.objects reference }
     {
         self.object(reference)?.name()
     }

@@ -3,7 +3,7 @@
 ghost use Rattle.std.specs.Prelude.{◌≡◌};
 ghost use Rattle.jvms_machine.specs.State.{object_at};
 ghost use Rattle.jvms_machine.specs.Heap.{with_field, with_object};
-ghost use Rattle.heap.specs.Objects.{asked, field_of, slot_in};
+ghost use Rattle.heap.specs.Objects.{object_part, field_of, slot_in};
 
 use crate::heap::Heap;
 use crate::making::name_at;
@@ -14,7 +14,8 @@ impl Heap<'_> {
     /// Returns the slot of an instance's field.
     #[tactic(auto, using(crate::proofs::NamedLaws::no_slot_named, crate::proofs::NamedLaws::slot_named))]
     fn slot_named(&self, reference: u32, field: &FieldName) -> Option<Slot>
-        ensures { result ≡ asked (slot_in self.now.program field.now) self.now.objects reference }
+        ensures { result
+            ≡ object_part (slot_in self.now.program field.now) self.now.objects reference }
     {
         let class = self.instance_class(reference)?;
         let program = self.program();
@@ -25,7 +26,7 @@ impl Heap<'_> {
     /// has no such field.
     #[tactic(auto, using(crate::proofs::NamedLaws::named_read, crate::proofs::NamedLaws::not_named))]
     pub fn field_named(&self, reference: u32, field: &FieldName) -> Option<Value>
-        ensures { result ≡ asked (field_of field.now) self.now.objects reference }
+        ensures { result ≡ object_part (field_of field.now) self.now.objects reference }
     {
         self.instances_have_their_fields();
         let slot = self.slot_named(reference, field)?;

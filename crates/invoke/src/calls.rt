@@ -64,7 +64,7 @@ fn enter_decision<'p>(
     if usize::from(code.max_locals) < given.arguments {
         return Called::Stops(bad(BadCause::Local));
     }
-    match parts.locking(t, thread, n, method, given.receiver) {
+    match parts.call_locking(t, thread, n, method, given.receiver) {
         Locking::Stops(decision) => Called::Stops(decision),
         Locking::Locks(lock) => Called::Enters(code, lock),
     }
@@ -131,7 +131,7 @@ fn entry_decision<'p>(
     if is_outside_method(method.method_type.get()) {
         return bad(BadCause::OutOfProfile);
     }
-    if let Some(decision) = parts.asking(t, thread, parts.method.class) {
+    if let Some(decision) = parts.class_use_decision(t, thread, parts.method.class) {
         return decision;
     }
     let given = Given {

@@ -99,7 +99,7 @@ fn superclass_decision<'p>(
 {
     match superclass {
         None => None,
-        Some(class) => parts.asking(t, thread, class),
+        Some(class) => parts.class_use_decision(t, thread, class),
     }
 }
 

@@ -13,7 +13,7 @@ use jvms_machine::action::Effect;
 use jvms_machine::machine::{BadCause, ThreadId};
 use jvms_machine::value::Value;
 use jvms_program::thrown::Thrown;
-use machine_parts::{Decided, Entering, Parts, bad, has_depth, never_seen, reaches, taking};
+use machine_parts::{Decided, Entering, Parts, bad, has_depth, never_seen, next_action, reaches};
 use machine_thread::Thread;
 
 /// Decides the entry of an object's monitor.
@@ -32,8 +32,8 @@ fn enter_object<'p>(
     if parts.heap.class_of(reference).is_none() {
         return never_seen();
     }
-    match parts.entering(t, thread, reference) {
-        Entering::Enters(monitor) => reaches(Effect::Locks(monitor), taking(1, frame)),
+    match parts.monitor_entry(t, thread, reference) {
+        Entering::Enters(monitor) => reaches(Effect::Locks(monitor), next_action(1, frame)),
         Entering::Stops(decision) => decision,
     }
 }
@@ -54,8 +54,8 @@ fn exit_object<'p>(
     if parts.heap.class_of(reference).is_none() {
         return never_seen();
     }
-    match parts.leaving(t, reference) {
-        Some(monitor) => reaches(Effect::Unlocks(monitor), taking(1, frame)),
+    match parts.monitor_exit(t, reference) {
+        Some(monitor) => reaches(Effect::Unlocks(monitor), next_action(1, frame)),
         None => parts.throws(thread, Thrown::IllegalMonitorStateException),
     }
 }

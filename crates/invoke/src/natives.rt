@@ -18,7 +18,7 @@ use jvms_machine::value::Value;
 use jvms_program::number::ClassNumber;
 use jvms_program::program::Method;
 use jvms_program::thrown::Thrown;
-use machine_parts::{Decided, Parts, bad, never_seen, reaches, taking};
+use machine_parts::{Decided, Parts, bad, never_seen, next_action, reaches};
 use machine_thread::Thread;
 
 /// Returns the decision to print. It takes all operands of the call: the receiver, and the printed value, if there is
@@ -27,7 +27,10 @@ fn prints<'p>(frame: &Frame, takes: u16, what: Printed, ends_line: bool) -> Deci
     requires { frame.now.activation.place + 1 < 2 ^ 64 }
     ensures { decision_value result ≡ prints frame.now.activation takes what ends_line }
 {
-    reaches(Effect::Prints { what, ends_line }, taking(takes, frame))
+    reaches(
+        Effect::Prints { what, ends_line },
+        next_action(takes, frame),
+    )
 }
 
 /// Decides the print of an object. Stops with `Kind` if it is no string.

@@ -75,7 +75,7 @@ fn returned_decision<'p>(
     ensures { decision_value result ≡ returned_decision parts.now.limits parts.now.state t frame.now
         (drop 1 thread.now.frames) value }
 {
-    match parts.unlocking(t, frame) {
+    match parts.frame_unlocking(t, frame) {
         Unlocking::Leaves(unlock) => returns_to(thread, frame, value, unlock),
         Unlocking::Fails => parts.fails_to_unlock(thread, frame),
     }

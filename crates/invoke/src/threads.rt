@@ -13,7 +13,7 @@ use jvms_machine::machine::{BlockedOn, Outcome};
 use jvms_machine::value::Value;
 use jvms_program::program::Method;
 use jvms_program::thrown::Thrown;
-use machine_parts::{Decided, Parts, never_seen, reaches, taking};
+use machine_parts::{Decided, Parts, never_seen, next_action, reaches};
 use machine_thread::Thread;
 
 /// Decides the start of a Thread object. It tests that the object wasn't started before, then the room for one more
@@ -39,7 +39,7 @@ fn start_decision<'p>(
         reference,
         thread: count as u32,
     };
-    reaches(effect, taking(1, frame))
+    reaches(effect, next_action(1, frame))
 }
 
 /// Decides a join. The turn is blocked until the joined thread has ended. A thread that wasn't started isn't waited
@@ -50,14 +50,14 @@ fn join_decision<'p>(parts: &Parts<'p>, frame: &Frame, joined: Option<usize>) ->
     ensures { decision_value result ≡ join_decision parts.now.state frame.now.activation joined }
 {
     let Some(u) = joined else {
-        return reaches(Effect::Nothing, taking(1, frame));
+        return reaches(Effect::Nothing, next_action(1, frame));
     };
     let Some(other) = parts.threads.as_slice().get(u) else {
         return never_seen();
     };
     let thread = u as u32;
     if other.has_ended() {
-        reaches(Effect::Joins { thread }, taking(1, frame))
+        reaches(Effect::Joins { thread }, next_action(1, frame))
     } else {
         let on = BlockedOn::Join { thread };
         Decision::Stays(Outcome::Blocked { on })

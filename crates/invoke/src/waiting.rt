@@ -4,7 +4,7 @@ ghost use Rattle.std.specs.Prelude.{◌≡◌, ◌+◌, ◌<◌, ◌^◌, OnErr,
 ghost use Rattle.jvms_machine.specs.declared.action.Action.TheVariants as action;
 ghost use Rattle.jvms_machine.specs.Actions.{items_of};
 ghost use Rattle.jvms_machine.specs.Turn.{IsReady};
-ghost use Rattle.jvms_machine.specs.Waiting.{object_native_decision, owner_decision, retaking, waits_or_notifies, waiting_decision};
+ghost use Rattle.jvms_machine.specs.Waiting.{object_native_decision, owner_decision, retake_decision, waits_or_notifies, waiting_decision};
 ghost use Rattle.machine_parts.specs.Decided.{decision_value};
 ghost use Rattle.machine_parts.specs.Machine.{after};
 ghost use Rattle.machine_parts.specs.Ready.{AreNumbered, HasCaller};
@@ -18,7 +18,7 @@ use jvms_machine::state::{Hold, Wait};
 use jvms_machine::value::Value;
 use jvms_program::program::Method;
 use jvms_program::thrown::Thrown;
-use machine_parts::{Decided, Parts, never_seen, reaches, taking};
+use machine_parts::{Decided, Parts, never_seen, next_action, reaches};
 use machine_thread::Thread;
 use std::alloc::AllocError;
 use trace::Recording;
@@ -36,7 +36,7 @@ fn waits_or_notifies<'p>(frame: &Frame, method: &Method, wait: Wait) -> Decided<
         reference: wait.reference,
         all: is_named(method.name.as_slice(), "notifyAll"),
     };
-    reaches(effect, taking(1, frame))
+    reaches(effect, next_action(1, frame))
 }
 
 /// Decides a wait or a notification. Throws `IllegalMonitorStateException` if the thread isn't the owner of the
@@ -91,8 +91,8 @@ pub(crate) fn object_native_decision<'p>(
 }
 
 /// Decides that a notified thread retakes the monitor. The turn is blocked until the monitor is free.
-fn retaking<'p>(wait: Wait, hold: Option<Hold>) -> Decided<'p>
-    ensures { decision_value result ≡ retaking wait hold }
+fn retake_decision<'p>(wait: Wait, hold: Option<Hold>) -> Decided<'p>
+    ensures { decision_value result ≡ retake_decision wait hold }
 {
     match hold {
         None => Decision::Applies(Action::Retakes(wait)),
@@ -117,7 +117,7 @@ pub fn waiting_decision<'p>(parts: &Parts<'p>, t: ThreadId, wait: Wait) -> Decid
         };
         return Decision::Stays(Outcome::Blocked { on });
     }
-    retaking(wait, parts.monitor(wait.reference))
+    retake_decision(wait, parts.monitor(wait.reference))
 }
 
 /// Frees a monitor for the top call, whose thread begins to wait. If there is no memory, nothing changes.

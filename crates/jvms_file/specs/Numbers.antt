@@ -132,11 +132,11 @@ shifted_right_unsigned a d = shifted_right_unsigned_in w32 a d
 
 -- Returns an int narrowed to a byte, a char or a short (JVMS 2.11.4, 6.5 i2b, i2c, i2s). The result is the number of
 -- that type that is congruent modulo 2^8 or 2^16. For a boolean it is the lowest bit.
-abbrev pub narrowing : Narrow → ℤ → ℤ
-narrowing narrow.Byte n = int_wrap w8 n
-narrowing narrow.Char n = int_rem_euclid n (pos (2 ^ 16))
-narrowing narrow.Short n = int_wrap w16 n
-narrowing narrow.Boolean n = int_rem_euclid n (pos 2)
+abbrev pub narrowed_int : Narrow → ℤ → ℤ
+narrowed_int narrow.Byte n = int_wrap w8 n
+narrowed_int narrow.Char n = int_rem_euclid n (pos (2 ^ 16))
+narrowed_int narrow.Short n = int_wrap w16 n
+narrowed_int narrow.Boolean n = int_rem_euclid n (pos 2)
 
 -- Returns the result of an operation on two ints that always gives one (JVMS 6.5 iadd, isub, imul, ishl, ishr, iushr,
 -- iand, ior, ixor).

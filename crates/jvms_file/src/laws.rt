@@ -3,7 +3,7 @@
 ghost use Rattle.std.specs.Prelude.{◌≡◌, ℕ, ◌∷◌, [], ℤ, pos, negsuc, Option, Some, None, Ok};
 ghost use Rattle.std.specs.Int.{w64};
 ghost use Rattle.jvms_file.specs.declared.insn.Narrow.TheVariants as narrow;
-ghost use Rattle.jvms_file.specs.Numbers.{wrap, long_wrap, IsCongruent, IsCongruentLong, IsInt, IsLong, quotient, remainder, shifted_left, shifted_right, shifted_right_unsigned, narrowing};
+ghost use Rattle.jvms_file.specs.Numbers.{wrap, long_wrap, IsCongruent, IsCongruentLong, IsInt, IsLong, quotient, remainder, shifted_left, shifted_right, shifted_right_unsigned, narrowed_int};
 ghost use Rattle.jvms_file.specs.Numbers.{quotient_in, shifted_left_in, shifted_right_unsigned_in, int_of_long, comparison};
 ghost use Rattle.jvms_file.specs.Code.{insns_of};
 ghost use Rattle.jvms_file.specs.Examples.{gcd_code, gcd_insns};
@@ -34,10 +34,10 @@ pub fn shifts_and_narrowed_numbers()
     ensures shifts { (shifted_left (pos 1) (pos 33) ≡ pos 2)
         × (shifted_right (negsuc 7) (pos 1) ≡ negsuc 3)
         × (shifted_right_unsigned (negsuc 0) (pos 28) ≡ pos 15) }
-    ensures narrowed { (narrowing narrow.Byte (pos 200) ≡ negsuc 55)
-        × (narrowing narrow.Char (negsuc 0) ≡ pos 65535)
-        × (narrowing narrow.Short (pos 40000) ≡ negsuc 25535)
-        × (narrowing narrow.Boolean (pos 3) ≡ pos 1) }
+    ensures narrowed { (narrowed_int narrow.Byte (pos 200) ≡ negsuc 55)
+        × (narrowed_int narrow.Char (negsuc 0) ≡ pos 65535)
+        × (narrowed_int narrow.Short (pos 40000) ≡ negsuc 25535)
+        × (narrowed_int narrow.Boolean (pos 3) ≡ pos 1) }
 {}
 
 /// Proves that the fifteen bytes of gcd are eleven instructions.

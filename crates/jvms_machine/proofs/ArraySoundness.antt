@@ -25,7 +25,7 @@ use Rattle.jvms_machine.specs.Start.{Start}
 use Rattle.jvms_machine.specs.Places.{is_of_kind, top_value}
 use Rattle.jvms_machine.proofs.PlaceLaws.{top_is_of_kind}
 use Rattle.jvms_machine.specs.Heap.{has_room_for_elements, next_reference, stored_as, array_of_type, array_of_class, component_type, first_element, has_dimensions, arrays_made, elements_made, new_arrays}
-use Rattle.jvms_machine.specs.Fields.{taking}
+use Rattle.jvms_machine.specs.Fields.{next_action}
 use Rattle.jvms_machine.specs.Arrays.{with_int, with_object_of, length_decision, new_array_decision, new_class_array_decision, lengths_in, is_int, is_negative, length_of_value, counted_lengths, new_arrays_room, new_arrays_decision, object_length_decision, array_length_decision, serves, kind_of_elements, element_at, element_load_decision, load_from, load_operands, fits_component, is_reference_kind, element_store_decision, store_to, store_operands, array_decision, element_size, store_below}
 use Rattle.jvms_machine.specs.Turn.{ElementsCanHold}
 use Rattle.jvms_machine.proofs.ListLaws.{all_at, all_replicate}
@@ -39,7 +39,7 @@ use Rattle.jvms_machine.proofs.StoredValues.{object_is, stored_is_value}
 use Rattle.jvms_machine.proofs.HeldValues.{stored_can_be_held}
 use Rattle.jvms_machine.proofs.ObjectSoundness.{put_element_is_sound}
 use Rattle.jvms_machine.proofs.NewArrays.{some_made, new_arrays_length, new_arrays_are}
-use Rattle.jvms_machine.proofs.EffectSoundness.{HasDepth, frame_is_fit, reaches_keeps, read_keeps, if_deep_keeps, making_keeps}
+use Rattle.jvms_machine.proofs.EffectSoundness.{HasDepth, frame_is_fit, reaches_keeps, read_keeps, if_deep_keeps, creation_keeps}
 
 -- An element of an array is a value.
 element_is_value : (heap : List Object) (elements : List Value) (n : ℤ) (v : Value) → AllByRecursion (IsValue heap) elements → element_at elements n ≡ Some v → IsValue heap v
@@ -96,7 +96,7 @@ module _ (program : List Class) (limits : Limits) (start : Start) (s : State) (t
       (λ has_room.
       let room = room_for_elements_is 1 count limits s (not-false has has_room) in
       let heap = s.heap ++ array class (replicate count (first_element class)) ∷ [] in
-      making_keeps program limits start s t thread frame below stands 1 (new_object.Array class count) depth refl
+      creation_keeps program limits start s t thread frame below stands 1 (new_object.Array class count) depth refl
       (all_replicate (IsValue heap) count (first_element class) (default_is_value heap (component_type class)), tt)
       room.0 room.1 (λ _. omega arith) tt))
 
@@ -130,7 +130,7 @@ module _ (program : List Class) (limits : Limits) (start : Start) (s : State) (t
       let new = new_arrays (next_reference s.heap) class lengths in
       let count : length new ≡ arrays_made lengths = new_arrays_length (next_reference s.heap) class lengths in
       let longer = grown_length s.heap new in
-      making_keeps program limits start s t thread frame below stands dimensions (new_object.Arrays class dimensions) depth count
+      creation_keeps program limits start s t thread frame below stands dimensions (new_object.Arrays class dimensions) depth count
       (new_arrays_are program (s.heap ++ new) (next_reference s.heap) class lengths (omega arith) (omega arith))
       room.0 room.1
       (λ _. some_made_of lengths (subst (λ n. 0 < n) (sym (lengths_taken dimensions frame.activation.operands depth.there)) some)) (dimensioned, depth.there)))
@@ -197,7 +197,7 @@ module _ (program : List Class) (limits : Limits) (start : Start) (s : State) (t
       let kept = stored_as (component_type class) v in
       cond_both (is_reference_kind k && not (fits_component program s class v)) _ _ KeepsSound
       (λ _. throws_keeps start stands thrown.ArrayStoreException)
-      (λ _. reaches_keeps program limits start s t thread frame below stands (effect.StoreElement r (unsigned_abs n) kept) (taking (2 + element_size k) frame.activation)
+      (λ _. reaches_keeps program limits start s t thread frame below stands (effect.StoreElement r (unsigned_abs n) kept) (next_action (2 + element_size k) frame.activation)
       (λ _. record { sound = put_element_is_sound stands.sound r (unsigned_abs n) kept (stored_is_value s.heap (component_type class) v is); room = depth.there; value = tt; heard = tt; can_be_made = λ _. holds }))
 
   store_to_keeps : (k : ArrayKind) (v : Value) (n : ℤ) (r : ℕ) (o : Object) → HasStored k → object_at s.heap r ≡ Some o → is_of_kind (kind_of_elements k) v ≡ true → IsValue s.heap v → KeepsSound (store_to program limits s thread frame.activation k v n r o)

@@ -35,7 +35,7 @@ use Rattle.jvms_machine.specs.Steps.{instruction_at}
 use Rattle.jvms_machine.specs.Profile.{is_outside_method}
 use Rattle.jvms_machine.specs.Calls.{frame_of_call, enter_decision, with_body, called_decision, first_call, entry_decision, run_of_class, selected_run, run_of_object, run_decision, first_call_decision, slots_of_call, receiver_of, are_of_call, with_method, call_decision, static_call_decision, selected_method, selected_decision, wrong_receiver, object_call_decision, receiver_call_decision, resolved_call_decision, invoke_decision}
 use Rattle.jvms_machine.specs.Monitors.{locked_reference}
-use Rattle.jvms_machine.specs.Actions.{with_lock, first_arguments, first_called, without_arguments, stack_without_operands, calling, top_operands, arguments_of, applied_to, items_of}
+use Rattle.jvms_machine.specs.Actions.{with_lock, first_arguments, first_called, without_arguments, stack_without_operands, thread_with_call, top_operands, arguments_of, applied_to, items_of}
 use Rattle.jvms_machine.specs.Marks.{calls_in, calls_of}
 use Rattle.jvms_machine.proofs.ListLaws.{all_weaker, all_append, all_replicate, all_take, all_reverse}
 use Rattle.jvms_machine.proofs.InitialisationOrder.{count_call}
@@ -45,8 +45,8 @@ use Rattle.jvms_machine.proofs.KeptStates.{Keeps, still}
 use Rattle.jvms_machine.proofs.ExceptionSoundness.{throws_keeps}
 use Rattle.jvms_machine.proofs.HeapGrowth.{values_grow}
 use Rattle.jvms_machine.proofs.StoredValues.{leads_is_reference}
-use Rattle.jvms_machine.proofs.LockSoundness.{IsLocked, locked_is_reference, locked_grows, can_be_locked, stands_with_lock, locking_keeps}
-use Rattle.jvms_machine.proofs.InitialisationSoundness.{asking_keeps}
+use Rattle.jvms_machine.proofs.LockSoundness.{IsLocked, locked_is_reference, locked_grows, can_be_locked, stands_with_lock, call_locking_keeps}
+use Rattle.jvms_machine.proofs.InitialisationSoundness.{class_use_keeps}
 use Rattle.jvms_machine.proofs.CallDescriptors.{IsFound, resolved_is_found, selected_is_found, numbered_has_descriptor, called_has_type}
 use Rattle.jvms_machine.proofs.EffectSoundness.{HasDepth, depth_is}
 use Rattle.jvms_machine.proofs.NativeSoundness.{native_keeps}
@@ -112,7 +112,7 @@ module _ (program : List Class) (limits : Limits) (start : Start) (s : State) (t
       (λ _. throws_keeps start stands thrown.StackOverflowError)
       (λ room. cond_both (nat_lt body.max_locals arguments) _ _ KeepsSound
       (λ _. still t stands.sound)
-      (λ few. locking_keeps program limits start s t thread stands n m receiver make reference
+      (λ few. call_locking_keeps program limits start s t thread stands n m receiver make reference
       (λ locked is flag. keeps locked (record { body_is = body_is; is_locked = is; flag = flag; room = leb-false limits.frames (length thread.frames) room; few = ltb-false body.max_locals arguments few }))))
 
   with_body_keeps : {frames : List Frame} → HasFrames frames → (o : Option Body) (make : Body → TurnDecision) → ((body : Body) → o ≡ Some body → KeepsSound (make body)) → KeepsSound (with_body o make)
@@ -176,7 +176,7 @@ module _ (program : List Class) (limits : Limits) (start : Start) (s : State) (t
       let values = all_weaker IsArgument (IsValue s.heap) (argument_is_value s.heap stands.sound.opened) start.arguments starts in
       cond_both (is_outside_method m.method_type) _ _ KeepsSound
       (λ _. still t stands.sound)
-      (λ _. asking_keeps program limits start s t thread stands start.method.class _
+      (λ _. class_use_keeps program limits start s t thread stands start.method.class _
       (first_keeps stands None (length start.arguments) start.method m tt is (subst (AllByRecursion (IsValue s.heap)) (sym given) values) (ap length given)))
 
   -- Any other thread has its Thread object as its argument.
@@ -224,20 +224,20 @@ module _ (program : List Class) (limits : Limits) (start : Start) (s : State) (t
         let callee = frame_of_call n body (locked_reference locked) arguments in
         let frames = frames_are_stack on in
         let now = stack_frame.Call callee ∷ stack_frame.Call (without_arguments takes frame) ∷ below in
-        let are : (calling callee takes thread).frames ≡ now = ap (λ (fs : List Frame). stack_frame.Call callee ∷ stack_without_operands takes fs) stands.frames_are in
+        let are : (thread_with_call callee takes thread).frames ≡ now = ap (λ (fs : List Frame). stack_frame.Call callee ∷ stack_without_operands takes fs) stands.frames_are in
         let as_many : length arguments ≡ takes = ap length (arguments_are takes) ∙ length-reverse (take takes frame.activation.operands) ∙ length-take-le takes frame.activation.operands depth.there in
         let values : AllByRecursion (IsValue made.heap) arguments = subst (AllByRecursion (IsValue made.heap)) (sym (arguments_are takes)) (all_reverse (IsValue made.heap) (take takes frame.activation.operands) (all_take (IsValue made.heap) takes frame.activation.operands frames.0.0.3)) in
         let few : length arguments ≤ body.max_locals = subst (λ k. k ≤ body.max_locals) (sym as_many) enters.few in
         let there : length thread.frames ≡ length (stack_frame.Call frame ∷ below) = ap length stands.frames_are in
         let room = enters.room in (
-          (λ of_program. moved_is_sound on (calling callee takes) now are refl (refl, refl)
+          (λ of_program. moved_is_sound on (thread_with_call callee takes) now are refl (refl, refl)
               (entered_is_frame program made.heap n body (locked_reference locked) arguments few values (body_of program n m body m_is enters.body_is) (locked_is_reference program limits s t locked enters.is_locked) (enters.flag ∙ sym (flag_of program n m m_is)), (given_is_frame program made.heap takes frame frames.0.0, frames.0.1))
               (stands_on_caller program made.heap frame callee m how r takes of_program frames.0.0 at m_is same depth, stack_goes_on program frame (without_arguments takes frame).activation below frames.1)
               (omega arith)
               (λ c. count_call c callee (stack_frame.Call (without_arguments takes frame) ∷ below) ∙ count_call c (without_arguments takes frame) below ∙ sym (count_call c frame below))),
           (λ _ limited. (slice_get_within s.threads t thread stands.given_out, enters.few, can_be_locked stands.sound locked enters.is_locked limited, subst (λ o. IfSome o (λ (th : Thread). takes ≤ length (top_operands th.frames))) (sym stands.given_out) (subst (λ (fs : List Frame). takes ≤ length (top_operands fs)) (sym stands.frames_are) depth.there))),
           marked_with_lock program t n locked ∙ entered_mark program t (calls_of s t) _ n
-              (changed_calls made.threads t thread (calling callee takes) on.given_out ∙ ap (λ (ms : List MethodNumber). n ∷ ms) (given_calls takes thread.frames ∙ sym (ap calls_in stands.given_out))),
+              (changed_calls made.threads t thread (thread_with_call callee takes) on.given_out ∙ ap (λ (ms : List MethodNumber). n ∷ ms) (given_calls takes thread.frames ∙ sym (ap calls_in stands.given_out))),
           (λ _. tt),
         )
 
@@ -255,7 +255,7 @@ module _ (program : List Class) (limits : Limits) (start : Start) (s : State) (t
     static_keeps : (found : ResolvedMethod) → IsFound program r.descriptor found → KeepsSound (static_call_decision program limits s t thread frame.activation (slots_of_call how r.method_type) found)
     static_keeps found is =
         numbered_keeps found (method_number program found) _ is refl
-        (λ n m number m_is same. asking_keeps program limits start s t thread stands n.class _ (call_keeps None tt found n m is number m_is same))
+        (λ n m number m_is same. class_use_keeps program limits start s t thread stands n.class _ (call_keeps None tt found n m is number m_is same))
 
     selected_keeps : (q : ℕ) → IsReference s.heap q → (o : Option ResolvedMethod) → ((f : ResolvedMethod) → o ≡ Some f → IsFound program r.descriptor f) → KeepsSound (selected_decision program limits s t thread frame.activation q (slots_of_call how r.method_type) o)
     selected_keeps q reference None is = throws_keeps start stands thrown.AbstractMethodError

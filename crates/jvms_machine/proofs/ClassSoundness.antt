@@ -25,7 +25,7 @@ use Rattle.jvms_machine.specs.Places.{value_size}
 use Rattle.jvms_machine.specs.Start.{Start}
 use Rattle.jvms_machine.specs.Exceptions.{has_room_for}
 use Rattle.jvms_machine.specs.Heap.{next_reference}
-use Rattle.jvms_machine.specs.Fields.{reaches, taking}
+use Rattle.jvms_machine.specs.Fields.{reaches, next_action}
 use Rattle.jvms_machine.specs.Heap.{class_name_at}
 use Rattle.jvms_machine.specs.Actions.{new_objects, new_count, new_elements}
 use Rattle.jvms_machine.specs.Objects.{is_instantiable, creation_if_room, instance_of_number, new_instance_decision, with_class_of, cast, instance_test_result, class_decision, existing_or_new, loadable_decision}
@@ -35,9 +35,9 @@ use Rattle.jvms_machine.proofs.ThreadChanges.{Stands}
 use Rattle.jvms_machine.proofs.OpeningSoundness.{first_instance_is}
 use Rattle.jvms_machine.proofs.KeptStates.{Keeps, still}
 use Rattle.jvms_machine.proofs.ExceptionSoundness.{throws_keeps}
-use Rattle.jvms_machine.proofs.InitialisationSoundness.{asking_keeps}
+use Rattle.jvms_machine.proofs.InitialisationSoundness.{class_use_keeps}
 use Rattle.jvms_machine.proofs.StoredValues.{found_is_reference}
-use Rattle.jvms_machine.proofs.EffectSoundness.{HasDepth, reaches_keeps, if_deep_keeps, making_keeps}
+use Rattle.jvms_machine.proofs.EffectSoundness.{HasDepth, reaches_keeps, if_deep_keeps, creation_keeps}
 use Rattle.jvms_machine.proofs.ArraySoundness.{new_class_array_keeps}
 
 module _ (program : List Class) (limits : Limits) (start : Start) (s : State) (t : ℕ) (thread : Thread) (frame : MethodFrame) (below : List Frame) (stands : Stands program limits s t thread (stack_frame.Call frame ∷ below)) where
@@ -53,7 +53,7 @@ module _ (program : List Class) (limits : Limits) (start : Start) (s : State) (t
       (λ has.
       let room = room_is 1 limits s has in
       let elements = stands.sound.elements in
-      making_keeps program limits start s t thread frame below stands 0 what depth (length_is ∙ sym count) are (omega arith) (omega arith) (λ _. omega arith) has_dimensions)
+      creation_keeps program limits start s t thread frame below stands 0 what depth (length_is ∙ sym count) are (omega arith) (omega arith) (λ _. omega arith) has_dimensions)
       (λ _. throws_keeps start stands thrown.OutOfMemoryError)
 
   -- ---- new
@@ -62,7 +62,7 @@ module _ (program : List Class) (limits : Limits) (start : Start) (s : State) (t
   instance_keeps None depth = still t stands.sound
   instance_keeps (Some class) depth =
       let name = class_name_at program class in
-      asking_keeps program limits start s t thread stands class _
+      class_use_keeps program limits start s t thread stands class _
       (one_keeps (new_object.Instance class) depth refl refl refl tt (first_instance_is program (s.heap ++ first_instance program name ∷ []) name, tt))
 
   new_instance_keeps : (name : List ℕ) (o : Option Class) → HasDepth frame 0 1 → KeepsSound (new_instance_decision program limits s t thread name o)
@@ -84,9 +84,9 @@ module _ (program : List Class) (limits : Limits) (start : Start) (s : State) (t
   with_class_keeps name (value.Reference r ∷ others) null on_result null_keeps keeps = class_of_by name r (object_at s.heap r) others null on_result refl keeps
   with_class_keeps name _ null on_result null_keeps keeps = still t stands.sound
 
-  goes_on_keeps : KeepsSound (reaches effect.Nothing (taking 0 frame.activation))
+  goes_on_keeps : KeepsSound (reaches effect.Nothing (next_action 0 frame.activation))
   goes_on_keeps =
-      reaches_keeps program limits start s t thread frame below stands effect.Nothing (taking 0 frame.activation)
+      reaches_keeps program limits start s t thread frame below stands effect.Nothing (next_action 0 frame.activation)
       (λ _. record { sound = stands.sound; room = omega arith; value = tt; heard = tt; can_be_made = λ _. tt })
 
   cast_keeps : (b : Bool) → KeepsSound (cast limits s thread frame b)
@@ -112,7 +112,7 @@ module _ (program : List Class) (limits : Limits) (start : Start) (s : State) (t
   class_keeps class_use.NewArray name = new_class_array_keeps program limits start s t thread frame below stands name
   class_keeps class_use.CheckCast name =
       if_deep_keeps program limits start s t thread frame below stands 1 1 _
-      (λ _. with_class_keeps name frame.activation.operands (reaches effect.Nothing (taking 0 frame.activation)) (cast limits s thread frame) goes_on_keeps cast_keeps)
+      (λ _. with_class_keeps name frame.activation.operands (reaches effect.Nothing (next_action 0 frame.activation)) (cast limits s thread frame) goes_on_keeps cast_keeps)
   class_keeps class_use.InstanceOf name =
       if_deep_keeps program limits start s t thread frame below stands 1 1 _
       (λ depth. with_class_keeps name frame.activation.operands (instance_test_result false) instance_test_result (told_keeps false depth) (λ b. told_keeps b depth))

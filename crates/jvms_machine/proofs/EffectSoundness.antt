@@ -27,8 +27,8 @@ use Rattle.jvms_machine.specs.Activations.{HasRoom, has_depth}
 use Rattle.jvms_machine.specs.Fields.{read_decision}
 use Rattle.jvms_machine.specs.Heap.{next_reference}
 use Rattle.jvms_machine.specs.Places.{value_size}
-use Rattle.jvms_machine.specs.Arrays.{if_deep, making}
-use Rattle.jvms_machine.specs.Actions.{frame_after_action, stack_after_action, thread_after_action, with_changed, event, instance_variable, static_variable, effect_items, put_field, put_static, new_objects, new_count, new_elements, affected, top_operands, operands_of, applied_to, items_of}
+use Rattle.jvms_machine.specs.Arrays.{if_deep, creation_decision}
+use Rattle.jvms_machine.specs.Actions.{frame_after_action, stack_after_action, thread_after_action, with_changed, event, instance_variable, static_variable, effect_items, put_field, put_static, new_objects, new_count, new_elements, after_effect, top_operands, operands_of, applied_to, items_of}
 use Rattle.jvms_machine.specs.Marks.{is_mark, calls_in, calls_of}
 use Rattle.jvms_machine.specs.Turn.{TopHasRoom, HasItsDimensions, CanBeMade}
 use Rattle.jvms_machine.proofs.InitialisationOrder.{count_call}
@@ -72,7 +72,7 @@ put_static_threads s v None = refl
 put_static_threads s v (Some key) = refl
 
 -- No started thread is changed.
-pub affected_thread : (program : List Class) (s : State) (t : ℕ) (operands : List Value) (what : Effect (List ℕ)) (u : ℕ) (thread : Thread) → slice_get s.threads u ≡ Some thread → slice_get (affected program s t operands what).threads u ≡ Some thread
+pub affected_thread : (program : List Class) (s : State) (t : ℕ) (operands : List Value) (what : Effect (List ℕ)) (u : ℕ) (thread : Thread) → slice_get s.threads u ≡ Some thread → slice_get (after_effect program s t operands what).threads u ≡ Some thread
 affected_thread program s t operands effect.Nothing u thread at = at
 affected_thread program s t operands (effect.GetField r n) u thread at = at
 affected_thread program s t operands (effect.PutField r n v) u thread at = ap (λ (ts : List Thread). slice_get ts u) (put_field_threads s r v (field_key_at program n)) ∙ at
@@ -135,9 +135,9 @@ depth_is frame takes gives is =
 -- The known facts about an instruction of the top call with this effect: the state after the effect is sound, and the
 -- frame has room for the new value.
 pub record IsMade (program : List Class) (limits : Limits) (s : State) (t : ℕ) (frame : MethodFrame) (what : Effect (List ℕ)) (act : FrameAction) : Type 0 where
-  pub sound : Sound program limits (affected program s t frame.activation.operands what)
+  pub sound : Sound program limits (after_effect program s t frame.activation.operands what)
   pub room : HasRoom frame.body frame.activation act
-  pub value : HasValue (affected program s t frame.activation.operands what).heap act
+  pub value : HasValue (after_effect program s t frame.activation.operands what).heap act
   pub heard : IsHeardEffect s what
   pub can_be_made : IsTrue (are_limits limits) → CanBeMade s frame.activation.operands what
 
@@ -150,22 +150,22 @@ module _ (program : List Class) (limits : Limits) (start : Start) (s : State) (t
   operands_are = ap operands_of stands.given_out ∙ ap top_operands stands.frames_are
 
   -- The thread has the same frames after the effect.
-  stands_after : (what : Effect (List ℕ)) → Sound program limits (affected program s t frame.activation.operands what) → Stands program limits (affected program s t frame.activation.operands what) t thread (stack_frame.Call frame ∷ below)
+  stands_after : (what : Effect (List ℕ)) → Sound program limits (after_effect program s t frame.activation.operands what) → Stands program limits (after_effect program s t frame.activation.operands what) t thread (stack_frame.Call frame ∷ below)
   stands_after what sound =
       record { sound = sound; given_out = affected_thread program s t frame.activation.operands what t thread stands.given_out; awake = stands.awake; frames_are = stands.frames_are }
 
   -- The thread has the same calls after the effect.
-  calls_after : (what : Effect (List ℕ)) (act : FrameAction) (operands : List Value) → calls_of (with_changed (affected program s t operands what) t (thread_after_action act)) t ≡ calls_of s t
+  calls_after : (what : Effect (List ℕ)) (act : FrameAction) (operands : List Value) → calls_of (with_changed (after_effect program s t operands what) t (thread_after_action act)) t ≡ calls_of s t
   calls_after what act operands =
       let given_out = affected_thread program s t operands what t thread stands.given_out in
-      changed_calls (affected program s t operands what).threads t thread (thread_after_action act) given_out ∙ gone_on_calls act thread.frames ∙ sym (ap calls_in stands.given_out)
+      changed_calls (after_effect program s t operands what).threads t thread (thread_after_action act) given_out ∙ gone_on_calls act thread.frames ∙ sym (ap calls_in stands.given_out)
 
   pub reaches_keeps : (what : Effect (List ℕ)) (act : FrameAction) → (IsProgram program → IsMade program limits s t frame what act) → KeepsSound (decision.Applies (action.Reaches what act))
   unfolding applied_to items_of
   reaches_keeps what act made = (
     (λ of_program.
         let is = made of_program in
-        subst (λ operands. Sound program limits (with_changed (affected program s t operands what) t (thread_after_action act))) (sym operands_are)
+        subst (λ operands. Sound program limits (with_changed (after_effect program s t operands what) t (thread_after_action act))) (sym operands_are)
         (gone_on_is_sound frame below act (stands_after what is.sound) is.room is.value)),
     (λ of_program are.
         let is = made of_program in
@@ -180,7 +180,7 @@ module _ (program : List Class) (limits : Limits) (start : Start) (s : State) (t
 
   -- ---- Values that are read
 
-  pub read_keeps : (what : Effect (List ℕ)) (takes : ℕ) (o : Option Value) → Sound program limits (affected program s t frame.activation.operands what) → IfSome o (IsValue (affected program s t frame.activation.operands what).heap) → IsHeardEffect s what → CanBeMade s frame.activation.operands what → KeepsSound (read_decision frame what takes o)
+  pub read_keeps : (what : Effect (List ℕ)) (takes : ℕ) (o : Option Value) → Sound program limits (after_effect program s t frame.activation.operands what) → IfSome o (IsValue (after_effect program s t frame.activation.operands what).heap) → IsHeardEffect s what → CanBeMade s frame.activation.operands what → KeepsSound (read_decision frame what takes o)
   read_keeps what takes None sound is heard can = still t stands.sound
   read_keeps what takes (Some v) sound is heard can =
       cond_both (has_depth frame.body takes (value_size v) frame.activation) _ _ KeepsSound
@@ -193,8 +193,8 @@ module _ (program : List Class) (limits : Limits) (start : Start) (s : State) (t
 
   -- The state with new objects is sound if they are objects and there is room for them. Nested arrays have their
   -- dimensions.
-  pub making_keeps : (takes : ℕ) (what : NewObject (List ℕ)) → HasDepth frame takes 1 → length (new_objects program (next_reference s.heap) frame.activation.operands what) ≡ new_count frame.activation.operands what → AllByRecursion (IsObject program (s.heap ++ new_objects program (next_reference s.heap) frame.activation.operands what)) (new_objects program (next_reference s.heap) frame.activation.operands what) → length s.heap + new_count frame.activation.operands what ≤ limits.objects → s.elements + new_elements frame.activation.operands what ≤ limits.elements → (IsProgram program → 1 ≤ new_count frame.activation.operands what) → HasItsDimensions frame.activation.operands what → KeepsSound (making s takes what)
-  making_keeps takes what depth count are objects elements some has_dimensions =
+  pub creation_keeps : (takes : ℕ) (what : NewObject (List ℕ)) → HasDepth frame takes 1 → length (new_objects program (next_reference s.heap) frame.activation.operands what) ≡ new_count frame.activation.operands what → AllByRecursion (IsObject program (s.heap ++ new_objects program (next_reference s.heap) frame.activation.operands what)) (new_objects program (next_reference s.heap) frame.activation.operands what) → length s.heap + new_count frame.activation.operands what ≤ limits.objects → s.elements + new_elements frame.activation.operands what ≤ limits.elements → (IsProgram program → 1 ≤ new_count frame.activation.operands what) → HasItsDimensions frame.activation.operands what → KeepsSound (creation_decision s takes what)
+  creation_keeps takes what depth count are objects elements some has_dimensions =
       let operands = frame.activation.operands in
       let new = new_objects program (next_reference s.heap) operands what in
       let longer = grown_length s.heap new in

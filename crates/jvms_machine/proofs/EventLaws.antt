@@ -29,7 +29,7 @@ use Rattle.jvms_program.specs.Program.{key_of, field_key_at}
 use Rattle.jvms_machine.specs.Decisions.{TurnAction, TurnDecision}
 use Rattle.jvms_machine.specs.State.{State, Thread, new_thread, monitor_at, Sound}
 use Rattle.jvms_machine.specs.Start.{Start}
-use Rattle.jvms_machine.specs.Actions.{mark, event, instance_variable, static_variable, enter_items, exit_items, release_items, lock_items, unlock_items, effect_items, changed_to, with_changed, with_lock, with_unlock, with_waiter, with_retaken, put_to_wait, after_wait, with_result, with_exception, with_class_constants, put_field, put_static, affected, operands_of, thread_after_action, applied_to, items_of}
+use Rattle.jvms_machine.specs.Actions.{mark, event, instance_variable, static_variable, enter_items, exit_items, release_items, lock_items, unlock_items, effect_items, changed_to, with_changed, with_lock, with_unlock, with_waiter, with_retaken, put_to_wait, after_wait, with_result, with_exception, with_class_constants, put_field, put_static, after_effect, operands_of, thread_after_action, applied_to, items_of}
 use Rattle.jvms_machine.specs.Turn.{CanBeLocked, CanBeMade, IsReady, IsReadyToMake, state_after, items_after}
 use Rattle.jvms_machine.specs.Events.{is_acquire, is_release, is_fork, newly_held, acquires_between, releases_between, forks_between}
 use Rattle.jvms_machine.proofs.KeptStates.{IsLeft, IsHeardEffect, IsHeard, IsHeardOf}
@@ -245,7 +245,7 @@ module _ (program : List Class) (limits : Limits) (start : Start) (s : State) (t
       let one : length (with_changed made t change).threads - length s.threads ≡ 1 = omega (arith, same_length program s t made change) in
       ap (λ v. item.Fork t v ∷ []) is ∙ sym (ap (λ n. map (λ v. item.Fork t v) (range_with_len (length s.threads) n)) one)
 
-  effect_is_told : (operands : List Value) (what : Effect (List ℕ)) (act : FrameAction) → CanBeMade s operands what → IsHeardEffect s what → (others : List Value) → HasEventsOf t s (with_changed (affected program s t others what) t (thread_after_action act)) (effect_items program t what)
+  effect_is_told : (operands : List Value) (what : Effect (List ℕ)) (act : FrameAction) → CanBeMade s operands what → IsHeardEffect s what → (others : List Value) → HasEventsOf t s (with_changed (after_effect program s t others what) t (thread_after_action act)) (effect_items program t what)
   effect_is_told operands effect.Nothing act can heard others = itself_is_told (thread_after_action act) [] none_are_other
   effect_is_told operands (effect.GetField r n) act can heard others = itself_is_told (thread_after_action act) _ (reads_are_other t (instance_variable program r n))
   effect_is_told operands (effect.PutField r n v) act can heard others =

@@ -11,7 +11,7 @@ use Rattle.jvms_program.specs.Program.{IsProgram}
 use Rattle.jvms_program.specs.Resolution.{fits}
 use Rattle.jvms_machine.specs.State.{State, Object, instance, object_at, class_of, first_instance, Thread, Frame, IsThrowable, Sound, IsWait}
 use Rattle.jvms_machine.specs.Start.{Start}
-use Rattle.jvms_machine.specs.Exceptions.{thrown_class, has_room_for, exception_of, exception_reference, raising, throws}
+use Rattle.jvms_machine.specs.Exceptions.{thrown_class, has_room_for, exception_of, exception_reference, raise_decision, throws}
 use Rattle.jvms_machine.specs.Actions.{with_changed, with_exception, applied_to, items_of}
 use Rattle.jvms_machine.specs.Marks.{calls_in, calls_of}
 use Rattle.jvms_machine.proofs.ListLaws.{appended_at}
@@ -101,15 +101,15 @@ module _ (program : List Class) (limits : Limits) (t : ℕ) (thread : Thread) (f
 -- ---- The turn
 
 module _ (program : List Class) (limits : Limits) (start : Start) (s : State) (t : ℕ) (thread : Thread) (frames : List Frame) (stands : Stands program limits s t thread frames) where
-  raising_keeps : (fs : List Frame) (e : Exception) → IsThrown program limits s e → Keeps program limits start s t (raising fs e)
+  raise_keeps : (fs : List Frame) (e : Exception) → IsThrown program limits s e → Keeps program limits start s t (raise_decision fs e)
   unfolding applied_to items_of
-  raising_keeps [] e is =
+  raise_keeps [] e is =
       ((λ of_program. thrown_is_sound program limits t thread frames (λ _. true) s stands e is of_program), (λ _ _. tt), unmarked_by program t (calls_of s t) _ (thrown_calls program limits t thread frames (λ _. true) s stands e (exception_reference s e)), (λ _. tt))
-  raising_keeps (f ∷ below) e is =
+  raise_keeps (f ∷ below) e is =
       ((λ of_program. thrown_is_sound program limits t thread frames (λ b. b) s stands e is of_program), (λ _ _. tt), unmarked_by program t (calls_of s t) _ (thrown_calls program limits t thread frames (λ b. b) s stands e (exception_reference s e)), (λ _. tt))
 
 -- The turn of a thread that throws an exception keeps a state sound.
 pub throws_keeps : {program : List Class} {limits : Limits} {s : State} {t : ℕ} {thread : Thread} {frames : List Frame} (start : Start) → Stands program limits s t thread frames → (class : Thrown) → Keeps program limits start s t (throws limits s thread class)
 unfolding throws
 throws_keeps {program = program} {limits = limits} {s = s} {t = t} {thread = thread} {frames = frames} start stands class =
-    raising_keeps program limits start s t thread frames stands thread.frames (exception_of limits s class) (exception_is_thrown program limits s stands.sound class)
+    raise_keeps program limits start s t thread frames stands thread.frames (exception_of limits s class) (exception_is_thrown program limits s stands.sound class)

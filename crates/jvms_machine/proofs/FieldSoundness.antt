@@ -29,11 +29,11 @@ use Rattle.jvms_machine.specs.Start.{Start}
 use Rattle.jvms_machine.specs.Activations.{has_depth}
 use Rattle.jvms_program.specs.Slots.{same_key}
 use Rattle.jvms_machine.specs.Heap.{stored_as, value_of}
-use Rattle.jvms_machine.specs.Fields.{field_takes, field_gives, are_of_field, taking, write_decision, static_decision, fields_of, object_decision, receiver_decision, object_of_use, instance_decision, numbered_field_decision, found_field_decision, resolved_field_decision, field_decision}
+use Rattle.jvms_machine.specs.Fields.{field_takes, field_gives, are_of_field, next_action, write_decision, static_decision, fields_of, object_decision, receiver_decision, object_of_use, instance_decision, numbered_field_decision, found_field_decision, resolved_field_decision, field_decision}
 use Rattle.jvms_machine.proofs.ThreadChanges.{Stands}
 use Rattle.jvms_machine.proofs.KeptStates.{Keeps, still}
 use Rattle.jvms_machine.proofs.ExceptionSoundness.{throws_keeps}
-use Rattle.jvms_machine.proofs.InitialisationSoundness.{asking_keeps}
+use Rattle.jvms_machine.proofs.InitialisationSoundness.{class_use_keeps}
 use Rattle.jvms_machine.proofs.StoredValues.{looked_up_is_value, object_is, fields_are_values, stored_is_value}
 use Rattle.jvms_machine.proofs.ObjectSoundness.{put_field_is_sound, put_static_is_sound}
 use Rattle.jvms_machine.proofs.EffectSoundness.{HasDepth, depth_is, frame_is_fit, reaches_keeps, read_keeps}
@@ -57,7 +57,7 @@ module _ (program : List Class) (limits : Limits) (start : Start) (s : State) (t
   put_static_keeps : (n : FieldNumber) (type : FieldType) (o : Option Value) → units_of type ≤ length frame.activation.operands → IsWhole s.heap (kind_of_type type) o → KeepsSound (write_decision frame (λ v. effect.PutStatic n v) (units_of type) type o)
   put_static_keeps n type None there whole = still t stands.sound
   put_static_keeps n type (Some v) there whole =
-      reaches_keeps program limits start s t thread frame below stands (effect.PutStatic n (stored_as type v)) (taking (units_of type) frame.activation)
+      reaches_keeps program limits start s t thread frame below stands (effect.PutStatic n (stored_as type v)) (next_action (units_of type) frame.activation)
       (λ _. record { sound = put_static_is_sound stands.sound (stored_as type v) (field_key_at program n) (stored_is_value s.heap type v whole.0); room = there; value = tt; heard = tt; can_be_made = λ _. tt })
 
   static_keeps : (how : FieldUse) (type : FieldType) (n : FieldNumber) (key : FieldKey) → HasDepth frame (field_takes how type) (field_gives how type) → KeepsSound (static_decision s frame how type n key)
@@ -73,7 +73,7 @@ module _ (program : List Class) (limits : Limits) (start : Start) (s : State) (t
   put_field_keeps : (r : ℕ) (n : FieldNumber) (type : FieldType) (o : Option Value) → 1 + units_of type ≤ length frame.activation.operands → IsWhole s.heap (kind_of_type type) o → KeepsSound (write_decision frame (λ v. effect.PutField r n v) (1 + units_of type) type o)
   put_field_keeps r n type None there whole = still t stands.sound
   put_field_keeps r n type (Some v) there whole =
-      reaches_keeps program limits start s t thread frame below stands (effect.PutField r n (stored_as type v)) (taking (1 + units_of type) frame.activation)
+      reaches_keeps program limits start s t thread frame below stands (effect.PutField r n (stored_as type v)) (next_action (1 + units_of type) frame.activation)
       (λ _. record { sound = put_field_is_sound stands.sound r (stored_as type v) (field_key_at program n) (stored_is_value s.heap type v whole.0); room = there; value = tt; heard = tt; can_be_made = λ _. tt })
 
   object_keeps : (how : FieldUse) (type : FieldType) (n : FieldNumber) (key : FieldKey) (r : ℕ) (o : Object) → HasDepth frame (field_takes how type) (field_gives how type) → object_at s.heap r ≡ Some o → KeepsSound (object_decision frame how type n key r o)
@@ -102,7 +102,7 @@ module _ (program : List Class) (limits : Limits) (start : Start) (s : State) (t
   numbered_keeps how type n None depth = still t stands.sound
   numbered_keeps how type n (Some key) depth =
       cond_both (is_static_use how) _ _ KeepsSound
-      (λ _. asking_keeps program limits start s t thread stands n.class _ (static_keeps how type n key depth))
+      (λ _. class_use_keeps program limits start s t thread stands n.class _ (static_keeps how type n key depth))
       (λ _. instance_keeps how type n key (object_of_use how type frame.activation.operands) depth)
 
   found_keeps : (how : FieldUse) (type : FieldType) (o : Option FieldNumber) → HasDepth frame (field_takes how type) (field_gives how type) → KeepsSound (found_field_decision program limits s t thread frame how type o)

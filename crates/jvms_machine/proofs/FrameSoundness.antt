@@ -30,11 +30,11 @@ use Rattle.jvms_program.specs.declared.program.Body.{Body}
 use Rattle.jvms_program.specs.declared.program.Instruction.{Instruction}
 use Rattle.jvms_program.specs.declared.program.Instruction.TheVariants as instruction
 use Rattle.jvms_machine.specs.State.{Activation, Object, IsValue}
-use Rattle.jvms_machine.specs.Activations.{rearranged, form_takes, form_gives, applied, HasRoom, pushes, jumps, with_local, with_depth, on_int, on_two_ints, on_given_reference, on_reference, on_two_references}
-use Rattle.jvms_machine.specs.Constants.{pushed, push_decision, constant_decision}
+use Rattle.jvms_machine.specs.Activations.{rearranged_operands, form_takes, form_gives, activation_after, HasRoom, pushes, jumps, with_local, with_depth, on_int, on_two_ints, on_given_reference, on_reference, on_two_references}
+use Rattle.jvms_machine.specs.Constants.{pushes_value, push_decision, constant_decision}
 use Rattle.jvms_machine.specs.Locals.{local_at, local_value, last_local, storable_value, is_profile_kind, load_value, load_decision, store_value, store_decision, return_to, local_decision, increment_value, increment_decision}
 use Rattle.jvms_machine.specs.Stack.{are_set, parts_a_long, stack_decision}
-use Rattle.jvms_machine.specs.Arithmetic.{divided, int_decision}
+use Rattle.jvms_machine.specs.Arithmetic.{quotient_decision, int_decision}
 use Rattle.jvms_machine.specs.LongArithmetic.{on_long, on_two_longs, on_shift, long_divided, long_decision}
 use Rattle.jvms_machine.specs.Places.{kind_size, put_on, value_size}
 use Rattle.jvms_machine.specs.Branches.{branch_decision}
@@ -74,7 +74,7 @@ module _ (heap : List Object) (body : Body) (a : Activation) (fit : IsFit heap b
   with_operands : (place : ℕ) (operands : List Value) → length operands ≤ body.max_stack → AllByRecursion (IsValue heap) operands → IsFit heap body (record { place = place; locals = a.locals; operands = operands })
   with_operands place operands short values = record { locals_fit = fit.locals_fit; operands_fit = short; locals = fit.locals; operands = values }
 
-  rearranged_is_fit : (f : StackForm) (operands : List Value) → form_takes f ≤ length operands → length operands - form_takes f + form_gives f ≤ body.max_stack → AllByRecursion (IsValue heap) operands → (length (rearranged f operands) ≤ body.max_stack) × AllByRecursion (IsValue heap) (rearranged f operands)
+  rearranged_is_fit : (f : StackForm) (operands : List Value) → form_takes f ≤ length operands → length operands - form_takes f + form_gives f ≤ body.max_stack → AllByRecursion (IsValue heap) operands → (length (rearranged_operands f operands) ≤ body.max_stack) × AllByRecursion (IsValue heap) (rearranged_operands f operands)
   rearranged_is_fit form.Pop (x ∷ below) takes room v = (omega arith, v.1)
   rearranged_is_fit form.Pop2 (x ∷ y ∷ below) takes room v = (omega arith, v.1.1)
   rearranged_is_fit form.Dup (x ∷ below) takes room v = (omega arith, (v.0, v))
@@ -86,7 +86,7 @@ module _ (heap : List Object) (body : Body) (a : Activation) (fit : IsFit heap b
   rearranged_is_fit form.Swap (x ∷ y ∷ below) takes room v = (omega arith, (v.1.0, (v.0, v.1.1)))
   rearranged_is_fit _ _ takes room v = absurd (omega arith)
 
-  pub applied_is_fit : (act : FrameAction) → HasRoom body a act → HasValue heap act → IsFit heap body (applied act a)
+  pub applied_is_fit : (act : FrameAction) → HasRoom body a act → HasValue heap act → IsFit heap body (activation_after act a)
   applied_is_fit (action.Push takes v) room is =
       let short = few takes room.0 in
       with_operands (a.place + 1) (put_on v (drop takes a.operands)) (subst (λ n. n ≤ body.max_stack) (sym (put_length v (drop takes a.operands))) (omega arith)) (put_values heap v (drop takes a.operands) is (left takes))
@@ -99,7 +99,7 @@ module _ (heap : List Object) (body : Body) (a : Activation) (fit : IsFit heap b
       let operands_fit = fit.operands_fit in
       with_operands target (drop takes a.operands) (omega arith) (left takes)
   applied_is_fit (action.Rearrange f) room is =
-      let both = rearranged_is_fit f a.operands room.0 room.1 fit.operands in with_operands (a.place + 1) (rearranged f a.operands) both.0 both.1
+      let both = rearranged_is_fit f a.operands room.0 room.1 fit.operands in with_operands (a.place + 1) (rearranged_operands f a.operands) both.0 both.1
   applied_is_fit (action.Subroutine target) room is =
       with_operands target (value.ReturnAddress (a.place + 1) ∷ a.operands) (omega arith) (tt, fit.operands)
 
@@ -144,7 +144,7 @@ module _ (heap : List Object) (body : Body) (a : Activation) (fit : IsFit heap b
 
   -- ---- Constants and local variables
 
-  pushed_keeps : (v : Value) → IsValue heap v → KeepsFit (pushed body a v)
+  pushed_keeps : (v : Value) → IsValue heap v → KeepsFit (pushes_value body a v)
   pushed_keeps v is = with_depth_keeps 0 (value_size v) (pushes 0 v) (λ there room. ((there, room), is))
 
   push_keeps : (p : Push) → KeepsFit (push_decision body p a)
@@ -204,7 +204,7 @@ module _ (heap : List Object) (body : Body) (a : Activation) (fit : IsFit heap b
       with_depth_keeps (form_takes f) (form_gives f) _
       (λ there room. keeps_if (are_set (form_takes f) a.operands && not (parts_a_long f a.operands)) (decision.Does (action.Rearrange f)) _ (λ _. ((there, room), tt)) tt)
 
-  divided_keeps : (n : Option ℤ) → 2 ≤ length a.operands → length a.operands - 2 + 1 ≤ body.max_stack → KeepsFit (divided n)
+  divided_keeps : (n : Option ℤ) → 2 ≤ length a.operands → length a.operands - 2 + 1 ≤ body.max_stack → KeepsFit (quotient_decision n)
   divided_keeps None there room = tt
   divided_keeps (Some n) there room = ((there, room), tt)
 

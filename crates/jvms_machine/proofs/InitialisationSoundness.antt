@@ -13,7 +13,7 @@ use Rattle.jvms_machine.specs.Decisions.{TurnDecision}
 use Rattle.jvms_machine.specs.State.{State, Thread, Frame, IsWait, Sound}
 use Rattle.jvms_machine.specs.Exceptions.{has_room_for}
 use Rattle.jvms_machine.specs.Start.{Start}
-use Rattle.jvms_machine.specs.Initialisation.{constants_of, new_texts, begin_decision, requiring_class_in, asking}
+use Rattle.jvms_machine.specs.Initialisation.{constants_of, new_texts, begin_decision, requiring_class_in, class_use_decision}
 use Rattle.jvms_machine.specs.Actions.{with_changed, with_class_constants, with_initialisation, with_initialisation_frame, applied_to, items_of}
 use Rattle.jvms_machine.specs.Marks.{calls_in, calls_of}
 use Rattle.jvms_machine.proofs.LimitLaws.{room_is}
@@ -66,14 +66,14 @@ module _ (program : List Class) (limits : Limits) (start : Start) (s : State) (t
       (λ _. throws_keeps start stands thrown.StackOverflowError)
       (λ room. begins_keeps stands class c begins is (room_is texts limits s (not-false (has_room_for texts limits s) has)) (leb-false limits.frames (length thread.frames) room)))
 
-  asking_at_keeps : {frames : List Frame} → HasFrames frames → (class : ℕ) (o : Option Initialisation) (continued : TurnDecision) → slice_get s.initialisations class ≡ o → KeepsSound continued → KeepsSound (requiring_class_in program limits s t thread class o continued)
-  asking_at_keeps stands class None continued is keeps = still t stands.sound
-  asking_at_keeps stands class (Some initialisation.NotBegun) continued is keeps = begin_keeps stands class (slice_get program class) is refl
-  asking_at_keeps stands class (Some (initialisation.InProgress u)) continued is keeps =
+  class_use_at_keeps : {frames : List Frame} → HasFrames frames → (class : ℕ) (o : Option Initialisation) (continued : TurnDecision) → slice_get s.initialisations class ≡ o → KeepsSound continued → KeepsSound (requiring_class_in program limits s t thread class o continued)
+  class_use_at_keeps stands class None continued is keeps = still t stands.sound
+  class_use_at_keeps stands class (Some initialisation.NotBegun) continued is keeps = begin_keeps stands class (slice_get program class) is refl
+  class_use_at_keeps stands class (Some (initialisation.InProgress u)) continued is keeps =
       cond_both (u == t) continued _ KeepsSound (λ _. keeps) (λ _. still t stands.sound)
-  asking_at_keeps stands class (Some initialisation.Done) continued is keeps = keeps
-  asking_at_keeps stands class (Some initialisation.Erroneous) continued is keeps = throws_keeps start stands thrown.NoClassDefFoundError
+  class_use_at_keeps stands class (Some initialisation.Done) continued is keeps = keeps
+  class_use_at_keeps stands class (Some initialisation.Erroneous) continued is keeps = throws_keeps start stands thrown.NoClassDefFoundError
 
   -- A turn that requires the initialisation of a class.
-  pub asking_keeps : {frames : List Frame} → HasFrames frames → (class : ℕ) (continued : TurnDecision) → KeepsSound continued → KeepsSound (asking program limits s t thread class continued)
-  asking_keeps stands class continued keeps = asking_at_keeps stands class (slice_get s.initialisations class) continued refl keeps
+  pub class_use_keeps : {frames : List Frame} → HasFrames frames → (class : ℕ) (continued : TurnDecision) → KeepsSound continued → KeepsSound (class_use_decision program limits s t thread class continued)
+  class_use_keeps stands class continued keeps = class_use_at_keeps stands class (slice_get s.initialisations class) continued refl keeps

@@ -22,7 +22,7 @@ use Rattle.jvms_machine.specs.State.{State, Thread, Frame, is_synchronized_at, i
 use Rattle.jvms_machine.specs.Start.{Start}
 use Rattle.jvms_machine.specs.Calls.{frame_of_call}
 use Rattle.jvms_machine.specs.Initialisation.{initializer_of, asked_superclass, initializer_call, initializer_decision, superclass_decision, initialisation_decision}
-use Rattle.jvms_machine.specs.Actions.{without_top, initializer_called, initialising, applied_to, items_of}
+use Rattle.jvms_machine.specs.Actions.{without_top, initializer_called, thread_with_initializer, applied_to, items_of}
 use Rattle.jvms_machine.specs.Marks.{calls, calls_in, calls_of}
 use Rattle.jvms_machine.proofs.ListLaws.{all_at, count_by_cons}
 use Rattle.jvms_machine.proofs.SearchLaws.{find_passes, position_leads}
@@ -31,7 +31,7 @@ use Rattle.jvms_machine.proofs.MarkLaws.{unmarked_by, entered_mark, changed_call
 use Rattle.jvms_machine.proofs.ThreadChanges.{Stands, frames_are_stack, thread_with_frames, changed_is_sound, moved_is_sound, stack_below, stack_begun}
 use Rattle.jvms_machine.proofs.KeptStates.{Keeps, still}
 use Rattle.jvms_machine.proofs.ExceptionSoundness.{throws_keeps}
-use Rattle.jvms_machine.proofs.InitialisationSoundness.{asking_keeps}
+use Rattle.jvms_machine.proofs.InitialisationSoundness.{class_use_keeps}
 use Rattle.jvms_machine.proofs.CallSoundness.{entered_is_frame}
 
 -- ---- <clinit>
@@ -97,11 +97,11 @@ module _ (program : List Class) (limits : Limits) (start : Start) (s : State) (t
       let frame = frame_of_call method body None [] in
       let frames = frames_are_stack stands in
       let now = stack_frame.Call frame ∷ stack_frame.Initialisation class true ∷ below in
-      let are : (initialising frame thread).frames ≡ now = ap (λ (fs : List Frame). stack_frame.Call frame ∷ initializer_called fs) stands.frames_are in
+      let are : (thread_with_initializer frame thread).frames ≡ now = ap (λ (fs : List Frame). stack_frame.Call frame ∷ initializer_called fs) stands.frames_are in
       let there : length thread.frames ≡ length (stack_frame.Initialisation class false ∷ below) = ap length stands.frames_are in
       let room = is.room in
       let body_is = ap (λ (o : Option Class). option_and_then (λ (m : Method). m.body) (option_and_then (λ (d : Class). slice_get d.methods n) o)) is.class_is ∙ is.body_is in (
-        (λ of_program. moved_is_sound stands (initialising frame) now are refl (refl, refl)
+        (λ of_program. moved_is_sound stands (thread_with_initializer frame) now are refl (refl, refl)
             (entered_is_frame program s.heap method body None [] (omega arith) tt body_is tt (sym (initializer_is_plain program class n c of_program is.class_is is.number)), (frames.0.0, frames.0.1))
             ((refl, refl, c, is.class_is, is.number), stack_begun program class true below (stack_below program (stack_frame.Initialisation class false) below frames.1))
             (omega arith)
@@ -110,7 +110,7 @@ module _ (program : List Class) (limits : Limits) (start : Start) (s : State) (t
             ∙ sym (count_by_cons (is_initialisation_of k) (stack_frame.Initialisation class false) below))),
         (λ _ _. slice_get_within s.threads t thread stands.given_out),
         entered_mark program t (calls_of s t) _ method
-            (changed_calls s.threads t thread (initialising frame) stands.given_out ∙ ap calls are
+            (changed_calls s.threads t thread (thread_with_initializer frame) stands.given_out ∙ ap calls are
             ∙ ap (λ (ms : List MethodNumber). method ∷ ms) (sym (ap calls_in stands.given_out ∙ ap calls stands.frames_are))),
         (λ _. tt),
       )
@@ -128,7 +128,7 @@ module _ (program : List Class) (limits : Limits) (start : Start) (s : State) (t
 
   superclass_keeps : {frames : List Frame} → HasFrames frames → (o : Option ℕ) (continued : TurnDecision) → KeepsSound continued → KeepsSound (superclass_decision program limits s t thread o continued)
   superclass_keeps stands None continued keeps = keeps
-  superclass_keeps stands (Some super) continued keeps = asking_keeps program limits start s t thread stands super continued keeps
+  superclass_keeps stands (Some super) continued keeps = class_use_keeps program limits start s t thread stands super continued keeps
 
   pub initialisation_keeps : (class : ℕ) (called : Bool) (below : List Frame) (o : Option Class) → HasFrames (stack_frame.Initialisation class called ∷ below) → slice_get program class ≡ o → KeepsSound (initialisation_decision program limits s t thread class called o)
   initialisation_keeps class called below None stands is = still t stands.sound

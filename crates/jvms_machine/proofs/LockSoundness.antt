@@ -17,7 +17,7 @@ use Rattle.jvms_machine.specs.Start.{Start}
 use Rattle.jvms_machine.specs.Limits.{are_limits}
 use Rattle.jvms_machine.specs.Exceptions.{has_room_for}
 use Rattle.jvms_machine.specs.Heap.{class_name_at, next_reference}
-use Rattle.jvms_machine.specs.Monitors.{leaving_held, leaving, entering_held, entering, object_locking, class_locking, locking, locked_reference}
+use Rattle.jvms_machine.specs.Monitors.{monitor_exit_by_hold, monitor_exit, monitor_entry_by_hold, monitor_entry, object_locking, class_locking, call_locking, locked_reference}
 use Rattle.jvms_machine.specs.Actions.{with_lock, with_unlock}
 use Rattle.jvms_machine.specs.Turn.{CanBeEntered, CanBeLocked}
 use Rattle.jvms_machine.proofs.LimitLaws.{limits_have_room, room_is}
@@ -116,15 +116,15 @@ module _ {program : List Class} {limits : Limits} {s : State} {t : ℕ} {thread 
       record { sound = monitors_are_sound stands.sound _ (left_are s.heap s.threads monitor.reference s.monitors stands.sound.monitors); given_out = stands.given_out; awake = stands.awake; frames_are = stands.frames_are }
 
 -- A monitor that a thread leaves is held.
-leaving_held_is : (s : State) (t r : ℕ) (o : Option Hold) (monitor : MonitorUse) → monitor_at s.monitors r ≡ o → leaving_held t r o ≡ Some monitor → IsLeft s monitor
-leaving_held_is s t r None monitor e is = absurd (none-some monitor is)
-leaving_held_is s t r (Some h) monitor e is =
+monitor_exit_held_is : (s : State) (t r : ℕ) (o : Option Hold) (monitor : MonitorUse) → monitor_at s.monitors r ≡ o → monitor_exit_by_hold t r o ≡ Some monitor → IsLeft s monitor
+monitor_exit_held_is s t r None monitor e is = absurd (none-some monitor is)
+monitor_exit_held_is s t r (Some h) monitor e is =
     let used : MonitorUse = record { reference = r; outermost = h.count == 1 } in
     let same = (cond_some (h.owner == t) used monitor is).1 in
     subst (IsLeft s) same (h, e, refl)
 
-pub leaving_is : (s : State) (t r : ℕ) (monitor : MonitorUse) → leaving s t r ≡ Some monitor → IsLeft s monitor
-leaving_is s t r monitor is = leaving_held_is s t r (monitor_at s.monitors r) monitor refl is
+pub monitor_exit_is : (s : State) (t r : ℕ) (monitor : MonitorUse) → monitor_exit s t r ≡ Some monitor → IsLeft s monitor
+monitor_exit_is s t r monitor is = monitor_exit_held_is s t r (monitor_at s.monitors r) monitor refl is
 
 -- Leaving a monitor doesn't change the heap.
 pub unlocked_heap : (s : State) (unlock : Option MonitorUse) → (with_unlock s unlock).heap ≡ s.heap
@@ -137,10 +137,10 @@ module _ (program : List Class) (limits : Limits) (start : Start) (s : State) (t
   abbrev KeepsSound : TurnDecision → Type 0
   KeepsSound d = Keeps program limits start s t d
 
-  entering_held_keeps : (r : ℕ) (o : Option Hold) (make : MonitorUse → TurnDecision) → monitor_at s.monitors r ≡ o → IfSome o (λ h. IsReference s.heap r × IsHold s.threads r h) → IsReference s.heap r → ((monitor : MonitorUse) → IsEntered s monitor → KeepsSound (make monitor)) → KeepsSound (entering_held limits s t thread r o make)
-  entering_held_keeps r None make e held reference keeps =
+  monitor_entry_held_keeps : (r : ℕ) (o : Option Hold) (make : MonitorUse → TurnDecision) → monitor_at s.monitors r ≡ o → IfSome o (λ h. IsReference s.heap r × IsHold s.threads r h) → IsReference s.heap r → ((monitor : MonitorUse) → IsEntered s monitor → KeepsSound (make monitor)) → KeepsSound (monitor_entry_by_hold limits s t thread r o make)
+  monitor_entry_held_keeps r None make e held reference keeps =
       keeps (record { reference = r; outermost = true }) (reference, (sym (ap is_none e), subst (λ o. IfSome o (λ (h : Hold). h.count + 1 < 2 ^ 32)) (sym e) tt))
-  entering_held_keeps r (Some h) make e held reference keeps =
+  monitor_entry_held_keeps r (Some h) make e held reference keeps =
       cond_both (not (h.owner == t)) _ _ KeepsSound
       (λ _. still t stands.sound)
       (λ _. cond_both (h.count == 4294967295) _ _ KeepsSound
@@ -151,9 +151,9 @@ module _ (program : List Class) (limits : Limits) (start : Start) (s : State) (t
       keeps (record { reference = r; outermost = false }) (reference, (sym (ap is_none e), subst (λ o. IfSome o (λ (k : Hold). k.count + 1 < 2 ^ 32)) (sym e) (omega arith)))))
 
   -- The monitor of an existing object is entered.
-  pub entering_keeps : (r : ℕ) (make : MonitorUse → TurnDecision) → IsReference s.heap r → ((monitor : MonitorUse) → IsEntered s monitor → KeepsSound (make monitor)) → KeepsSound (entering limits s t thread r make)
-  entering_keeps r make reference keeps =
-      entering_held_keeps r (monitor_at s.monitors r) make refl (held_is s.heap s.threads r s.monitors stands.sound.monitors) reference keeps
+  pub monitor_entry_keeps : (r : ℕ) (make : MonitorUse → TurnDecision) → IsReference s.heap r → ((monitor : MonitorUse) → IsEntered s monitor → KeepsSound (make monitor)) → KeepsSound (monitor_entry limits s t thread r make)
+  monitor_entry_keeps r make reference keeps =
+      monitor_entry_held_keeps r (monitor_at s.monitors r) make refl (held_is s.heap s.threads r s.monitors stands.sound.monitors) reference keeps
 
   -- The turns after a lock keep the state sound, if something is locked.
   abbrev AllKeep : (Lock → TurnDecision) → Type 0
@@ -161,19 +161,19 @@ module _ (program : List Class) (limits : Limits) (start : Start) (s : State) (t
 
   object_locking_keeps : (receiver : Option ℕ) (make : Lock → TurnDecision) → IfSome receiver (IsReference s.heap) → AllKeep make → KeepsSound (object_locking limits s t thread receiver make)
   object_locking_keeps None make is keeps = still t stands.sound
-  object_locking_keeps (Some r) make is keeps = entering_keeps r (λ monitor. make (lock.Monitor monitor)) is (λ monitor entered. keeps (lock.Monitor monitor) entered refl)
+  object_locking_keeps (Some r) make is keeps = monitor_entry_keeps r (λ monitor. make (lock.Monitor monitor)) is (λ monitor entered. keeps (lock.Monitor monitor) entered refl)
 
   class_locking_keeps : (class : ℕ) (o : Option ℕ) (make : Lock → TurnDecision) → ((r : ℕ) → o ≡ Some r → IsReference s.heap r) → AllKeep make → KeepsSound (class_locking limits s t thread class o make)
   class_locking_keeps class (Some r) make is keeps =
-      entering_keeps r (λ monitor. make (lock.Monitor monitor)) (is r refl) (λ monitor entered. keeps (lock.Monitor monitor) entered refl)
+      monitor_entry_keeps r (λ monitor. make (lock.Monitor monitor)) (is r refl) (λ monitor entered. keeps (lock.Monitor monitor) entered refl)
   class_locking_keeps class None make is keeps =
       cond_both (has_room_for 1 limits s) _ _ KeepsSound
       (λ has. keeps (lock.NewClass class (next_reference s.heap)) (refl, room_is 1 limits s has) refl)
       (λ _. throws_keeps start stands thrown.OutOfMemoryError)
 
   -- A call of a method locks something if and only if the method is synchronized.
-  pub locking_keeps : (n : MethodNumber) (m : Method) (receiver : Option ℕ) (make : Lock → TurnDecision) → IfSome receiver (IsReference s.heap) → ((locked : Lock) → IsLocked limits s locked → is_some (locked_reference locked) ≡ m.flags.is_synchronized → KeepsSound (make locked)) → KeepsSound (locking program limits s t thread n m receiver make)
-  locking_keeps n m receiver make is keeps =
+  pub call_locking_keeps : (n : MethodNumber) (m : Method) (receiver : Option ℕ) (make : Lock → TurnDecision) → IfSome receiver (IsReference s.heap) → ((locked : Lock) → IsLocked limits s locked → is_some (locked_reference locked) ≡ m.flags.is_synchronized → KeepsSound (make locked)) → KeepsSound (call_locking program limits s t thread n m receiver make)
+  call_locking_keeps n m receiver make is keeps =
       let name = class_name_at program n.class in
       cond_both (not m.flags.is_synchronized) _ _ KeepsSound
       (λ plain. keeps lock.Nothing tt (sym (not-true m.flags.is_synchronized plain)))

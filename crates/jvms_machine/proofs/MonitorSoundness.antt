@@ -10,14 +10,14 @@ use Rattle.jvms_program.specs.declared.thrown.Thrown.TheVariants as thrown
 use Rattle.jvms_machine.specs.Decisions.{TurnDecision}
 use Rattle.jvms_machine.specs.State.{State, Object, Thread, Frame, MethodFrame, object_at}
 use Rattle.jvms_machine.specs.Start.{Start}
-use Rattle.jvms_machine.specs.Fields.{taking}
-use Rattle.jvms_machine.specs.Monitors.{leaving}
+use Rattle.jvms_machine.specs.Fields.{next_action}
+use Rattle.jvms_machine.specs.Monitors.{monitor_exit}
 use Rattle.jvms_machine.specs.Locking.{enter_object, exit_object, on_top_object, monitor_enter_decision, monitor_exit_decision}
 use Rattle.jvms_machine.proofs.ThreadChanges.{Stands}
 use Rattle.jvms_machine.proofs.KeptStates.{Keeps, still}
 use Rattle.jvms_machine.proofs.ExceptionSoundness.{throws_keeps}
 use Rattle.jvms_machine.proofs.StoredValues.{leads_is_reference}
-use Rattle.jvms_machine.proofs.LockSoundness.{entered_is_sound, entering_keeps, leaving_is, stands_with_unlock}
+use Rattle.jvms_machine.proofs.LockSoundness.{entered_is_sound, monitor_entry_keeps, monitor_exit_is, stands_with_unlock}
 use Rattle.jvms_machine.proofs.EffectSoundness.{reaches_keeps, if_deep_keeps}
 use Rattle.jvms_machine.proofs.ArraySoundness.{with_object_keeps}
 
@@ -27,15 +27,15 @@ module _ (program : List Class) (limits : Limits) (start : Start) (s : State) (t
 
   enter_keeps : 1 ≤ length frame.activation.operands → (r : ℕ) (o : Object) → object_at s.heap r ≡ Some o → KeepsSound (enter_object limits s t thread frame r o)
   enter_keeps there r o at =
-      entering_keeps program limits start s t thread stands r _ (leads_is_reference s.heap r o at)
-      (λ monitor entered. reaches_keeps program limits start s t thread frame below stands (effect.Locks monitor) (taking 1 frame.activation)
+      monitor_entry_keeps program limits start s t thread stands r _ (leads_is_reference s.heap r o at)
+      (λ monitor entered. reaches_keeps program limits start s t thread frame below stands (effect.Locks monitor) (next_action 1 frame.activation)
       (λ _. record { sound = entered_is_sound stands monitor entered; room = there; value = tt; heard = tt; can_be_made = λ _. entered.1 }))
 
-  left_by : 1 ≤ length frame.activation.operands → (r : ℕ) (o : Object) (left : Option MonitorUse) → left ≡ leaving s t r → KeepsSound (exit_object limits s t thread frame r o)
+  left_by : 1 ≤ length frame.activation.operands → (r : ℕ) (o : Object) (left : Option MonitorUse) → left ≡ monitor_exit s t r → KeepsSound (exit_object limits s t thread frame r o)
   left_by there r o None e = rw (← e) (throws_keeps start stands thrown.IllegalMonitorStateException)
   left_by there r o (Some monitor) e =
-      let is = leaving_is s t r monitor (sym e) in
-      rw (← e) (reaches_keeps program limits start s t thread frame below stands (effect.Unlocks monitor) (taking 1 frame.activation)
+      let is = monitor_exit_is s t r monitor (sym e) in
+      rw (← e) (reaches_keeps program limits start s t thread frame below stands (effect.Unlocks monitor) (next_action 1 frame.activation)
       (λ _. record { sound = (stands_with_unlock stands (Some monitor)).sound; room = there; value = tt; heard = is; can_be_made = λ _. tt }))
 
   top_keeps : (rest : ℕ → Object → TurnDecision) (operands : List Value) → ((r : ℕ) (o : Object) → object_at s.heap r ≡ Some o → KeepsSound (rest r o)) → KeepsSound (on_top_object limits s thread operands rest)
@@ -52,4 +52,4 @@ module _ (program : List Class) (limits : Limits) (start : Start) (s : State) (t
   unfolding monitor_exit_decision
   monitor_exit_keeps =
       if_deep_keeps program limits start s t thread frame below stands 1 0 _
-      (λ depth. top_keeps (exit_object limits s t thread frame) frame.activation.operands (λ r o at. left_by depth.there r o (leaving s t r) refl))
+      (λ depth. top_keeps (exit_object limits s t thread frame) frame.activation.operands (λ r o at. left_by depth.there r o (monitor_exit s t r) refl))

@@ -19,9 +19,9 @@ use Rattle.jvms_machine.specs.Decisions.{TurnDecision}
 use Rattle.jvms_machine.specs.State.{State, Object, instance, array, text, class_object, Thread, Frame, MethodFrame, object_at, same_object, IsAtInvoke, IsReference, IsValue, Sound}
 use Rattle.jvms_machine.specs.Start.{Start}
 use Rattle.jvms_machine.specs.Output.{line_bytes}
-use Rattle.jvms_machine.specs.Fields.{reaches, taking}
+use Rattle.jvms_machine.specs.Fields.{reaches, next_action}
 use Rattle.jvms_machine.specs.Threads.{thread_of, start_decision, join_decision, thread_native_decision}
-use Rattle.jvms_machine.specs.Actions.{affected}
+use Rattle.jvms_machine.specs.Actions.{after_effect}
 use Rattle.jvms_machine.specs.Turn.{CanBeMade}
 use Rattle.jvms_machine.specs.Natives.{prints, object_printed, value_printed, print_decision, native_of_class}
 use Rattle.jvms_machine.specs.Places.{whole_top}
@@ -43,7 +43,7 @@ module _ (program : List Class) (limits : Limits) (start : Start) (s : State) (t
 
   prints_keeps : (takes : ℕ) (what : Printed) (ends_line : Bool) → takes ≤ length frame.activation.operands → KeepsSound (prints frame.activation takes what ends_line)
   prints_keeps takes what ends_line there =
-      reaches_keeps program limits start s t thread frame below stands (effect.Prints what ends_line) (taking takes frame.activation)
+      reaches_keeps program limits start s t thread frame below stands (effect.Prints what ends_line) (next_action takes frame.activation)
       (λ _. record { sound = printed_is_sound stands.sound (s.output ++ line_bytes s.heap what ends_line); room = there; value = tt; heard = tt; can_be_made = λ _. tt })
 
   object_printed_keeps : (takes : ℕ) (ends_line : Bool) (r : ℕ) (o : Option Object) → takes ≤ length frame.activation.operands → KeepsSound (object_printed frame.activation takes ends_line r o)
@@ -78,7 +78,7 @@ module _ (program : List Class) (limits : Limits) (start : Start) (s : State) (t
       cond_both (nat_lt (length s.threads) limits.threads) _ _ KeepsSound
       (λ has.
       let room = ltb-true (length s.threads) limits.threads has in
-      reaches_keeps program limits start s t thread frame below stands (effect.Starts r (length s.threads)) (taking 1 frame.activation)
+      reaches_keeps program limits start s t thread frame below stands (effect.Starts r (length s.threads)) (next_action 1 frame.activation)
       (λ _. record {
         sound = started_is_sound t thread r stands.sound stands.given_out there.0 (none_passes (λ (u : Thread). same_object u.object (Some r)) s.threads found) room;
         room = there.1;
@@ -88,9 +88,9 @@ module _ (program : List Class) (limits : Limits) (start : Start) (s : State) (t
       }))
       (λ _. throws_keeps start stands thrown.OutOfMemoryError)
 
-  goes_on_keeps : (what : Effect (List ℕ)) → Sound program limits (affected program s t frame.activation.operands what) → 1 ≤ length frame.activation.operands → CanBeMade s frame.activation.operands what → IsHeardEffect s what → KeepsSound (reaches what (taking 1 frame.activation))
+  goes_on_keeps : (what : Effect (List ℕ)) → Sound program limits (after_effect program s t frame.activation.operands what) → 1 ≤ length frame.activation.operands → CanBeMade s frame.activation.operands what → IsHeardEffect s what → KeepsSound (reaches what (next_action 1 frame.activation))
   goes_on_keeps what sound there can heard =
-      reaches_keeps program limits start s t thread frame below stands what (taking 1 frame.activation)
+      reaches_keeps program limits start s t thread frame below stands what (next_action 1 frame.activation)
       (λ _. record { sound = sound; room = there; value = tt; heard = heard; can_be_made = λ _. can })
 
   joined_by : (u : ℕ) (o : Option Thread) → o ≡ slice_get s.threads u → 1 ≤ length frame.activation.operands → KeepsSound (join_decision s frame.activation (Some u))

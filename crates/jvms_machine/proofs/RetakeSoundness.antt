@@ -14,7 +14,7 @@ use Rattle.jvms_machine.specs.State.{State, Object, Thread, Frame, monitor_at, w
 use Rattle.jvms_machine.specs.Start.{Start}
 use Rattle.jvms_machine.specs.Actions.{stack_after_return, changed_to, after_wait, with_changed, with_retaken, applied_to, items_of}
 use Rattle.jvms_machine.specs.Marks.{calls_in, calls_of}
-use Rattle.jvms_machine.specs.Waiting.{is_waiter, retaking, waiting_decision}
+use Rattle.jvms_machine.specs.Waiting.{is_waiter, retake_decision, waiting_decision}
 use Rattle.jvms_machine.proofs.ListLaws.{all_at, all_set, get_set_same}
 use Rattle.jvms_machine.proofs.InitialisationOrder.{order_with_thread}
 use Rattle.jvms_machine.proofs.MarkLaws.{unmarked_by, changed_calls, returned_calls}
@@ -90,13 +90,13 @@ module _ (program : List Class) (limits : Limits) (start : Start) (s : State) (t
     (λ _. free),
   )
 
-  retaking_keeps : (o : Option Hold) → is_waiter t s.waiters ≡ false → monitor_at s.monitors w.reference ≡ o → KeepsSound (retaking w o)
-  retaking_keeps None notified free = retakes_keeps notified free
-  retaking_keeps (Some h) notified held = still t sound
+  retake_keeps : (o : Option Hold) → is_waiter t s.waiters ≡ false → monitor_at s.monitors w.reference ≡ o → KeepsSound (retake_decision w o)
+  retake_keeps None notified free = retakes_keeps notified free
+  retake_keeps (Some h) notified held = still t sound
 
   pub waiting_keeps : KeepsSound (waiting_decision s t w)
   unfolding waiting_decision
   waiting_keeps =
       cond_both (is_waiter t s.waiters) _ _ KeepsSound
       (λ _. still t sound)
-      (λ notified. retaking_keeps (monitor_at s.monitors w.reference) notified refl)
+      (λ notified. retake_keeps (monitor_at s.monitors w.reference) notified refl)

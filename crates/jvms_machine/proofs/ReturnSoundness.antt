@@ -34,7 +34,7 @@ use Rattle.jvms_machine.proofs.MarkLaws.{left_mark, marked_with_unlock, changed_
 use Rattle.jvms_machine.proofs.ThreadChanges.{Stands, thread_is, frames_are_stack, changed_is_sound, moved_is_sound, stack_goes_on}
 use Rattle.jvms_machine.proofs.KeptStates.{IsLeft, Keeps, still}
 use Rattle.jvms_machine.proofs.LockSoundness.{stands_with_unlock, unlocked_heap}
-use Rattle.jvms_machine.proofs.UnlockSoundness.{unlocking_keeps}
+use Rattle.jvms_machine.proofs.UnlockSoundness.{frame_unlocking_keeps}
 use Rattle.jvms_machine.proofs.PlaceLaws.{IsWhole, put_length, put_values, top_is_whole, type_units}
 
 -- ---- The caller of a returning call
@@ -159,7 +159,7 @@ module _ (program : List Class) (limits : Limits) (start : Start) (s : State) (t
 
   returned_keeps : (frame : MethodFrame) (below : List Frame) (m : Method) (result : Option Value) → HasFrames (stack_frame.Call frame ∷ below) → method_at program frame.method ≡ Some m → IsResultOf m.method_type.result result → IfSome result (IsValue s.heap) → KeepsSound (returned_decision limits s t frame below result)
   returned_keeps frame below m result stands m_is gives result_is =
-      unlocking_keeps program limits start s t thread frame below stands _ (λ unlock is_left. returns_to_keeps frame below m result stands m_is gives result_is unlock is_left)
+      frame_unlocking_keeps program limits start s t thread frame below stands _ (λ unlock is_left. returns_to_keeps frame below m result stands m_is gives result_is unlock is_left)
 
   return_value_keeps : (frame : MethodFrame) (below : List Frame) (m : Method) (k : Kind) (o : Option Value) → HasFrames (stack_frame.Call frame ∷ below) → method_at program frame.method ≡ Some m → IsWhole s.heap k o → KeepsSound (return_value_decision limits s t frame below m.method_type.result k o)
   return_value_keeps frame below m k None stands m_is whole = still t stands.sound

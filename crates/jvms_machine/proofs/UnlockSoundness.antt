@@ -14,14 +14,14 @@ use Rattle.jvms_machine.specs.Decisions.{TurnDecision}
 use Rattle.jvms_machine.specs.State.{State, Thread, Frame, MethodFrame, Sound}
 use Rattle.jvms_machine.specs.Start.{Start}
 use Rattle.jvms_machine.specs.Exceptions.{exception_of, exception_reference}
-use Rattle.jvms_machine.specs.Monitors.{leaving, unlocking, is_empty, fails_to_unlock}
+use Rattle.jvms_machine.specs.Monitors.{monitor_exit, frame_unlocking, is_empty, fails_to_unlock}
 use Rattle.jvms_machine.specs.Actions.{with_pending, unwound, with_changed, with_exception, applied_to, items_of}
 use Rattle.jvms_machine.specs.Marks.{calls, calls_in, calls_of}
 use Rattle.jvms_machine.proofs.InitialisationOrder.{count_call}
 use Rattle.jvms_machine.proofs.MarkLaws.{left_mark, changed_calls}
 use Rattle.jvms_machine.proofs.ThreadChanges.{Stands, frames_are_stack, struck_is_sound, stack_below}
 use Rattle.jvms_machine.proofs.KeptStates.{IsLeft, Keeps}
-use Rattle.jvms_machine.proofs.LockSoundness.{leaving_is}
+use Rattle.jvms_machine.proofs.LockSoundness.{monitor_exit_is}
 use Rattle.jvms_machine.proofs.ExceptionSoundness.{IsThrown, exception_is_thrown, exception_is_throwable, stands_with_exception}
 
 module _ (program : List Class) (limits : Limits) (start : Start) (s : State) (t : ℕ) (thread : Thread) (frame : MethodFrame) (below : List Frame) (stands : Stands program limits s t thread (stack_frame.Call frame ∷ below)) where
@@ -56,17 +56,17 @@ module _ (program : List Class) (limits : Limits) (start : Start) (s : State) (t
     (λ _. tt),
   )
 
-  unlocking_by : (r : ℕ) (o : Option MonitorUse) (fails : TurnDecision) (make : Option MonitorUse → TurnDecision) → o ≡ leaving s t r → KeepsSound fails → ((unlock : Option MonitorUse) → IfSome unlock (IsLeft s) → KeepsSound (make unlock)) → KeepsSound (unlocking s t (Some r) fails make)
-  unlocking_by r None fails make e fail keeps = rw (← e) fail
-  unlocking_by r (Some monitor) fails make e fail keeps = rw (← e) (keeps (Some monitor) (leaving_is s t r monitor (sym e)))
+  frame_unlocking_by : (r : ℕ) (o : Option MonitorUse) (fails : TurnDecision) (make : Option MonitorUse → TurnDecision) → o ≡ monitor_exit s t r → KeepsSound fails → ((unlock : Option MonitorUse) → IfSome unlock (IsLeft s) → KeepsSound (make unlock)) → KeepsSound (frame_unlocking s t (Some r) fails make)
+  frame_unlocking_by r None fails make e fail keeps = rw (← e) fail
+  frame_unlocking_by r (Some monitor) fails make e fail keeps = rw (← e) (keeps (Some monitor) (monitor_exit_is s t r monitor (sym e)))
 
-  unlocking_one : (o : Option ℕ) (fails : TurnDecision) (make : Option MonitorUse → TurnDecision) → KeepsSound fails → ((unlock : Option MonitorUse) → IfSome unlock (IsLeft s) → KeepsSound (make unlock)) → KeepsSound (unlocking s t o fails make)
-  unlocking_one None fails make fail keeps = keeps None tt
-  unlocking_one (Some r) fails make fail keeps = unlocking_by r (leaving s t r) fails make refl fail keeps
+  frame_unlocking_one : (o : Option ℕ) (fails : TurnDecision) (make : Option MonitorUse → TurnDecision) → KeepsSound fails → ((unlock : Option MonitorUse) → IfSome unlock (IsLeft s) → KeepsSound (make unlock)) → KeepsSound (frame_unlocking s t o fails make)
+  frame_unlocking_one None fails make fail keeps = keeps None tt
+  frame_unlocking_one (Some r) fails make fail keeps = frame_unlocking_by r (monitor_exit s t r) fails make refl fail keeps
 
   -- The top call leaves its monitor, or can't.
-  pub unlocking_keeps : (make : Option MonitorUse → TurnDecision) → ((unlock : Option MonitorUse) → IfSome unlock (IsLeft s) → KeepsSound (make unlock)) → KeepsSound (unlocking s t frame.monitor (fails_to_unlock limits s frame.method below) make)
-  unlocking_keeps make keeps =
-      unlocking_one frame.monitor (fails_to_unlock limits s frame.method below) make
+  pub frame_unlocking_keeps : (make : Option MonitorUse → TurnDecision) → ((unlock : Option MonitorUse) → IfSome unlock (IsLeft s) → KeepsSound (make unlock)) → KeepsSound (frame_unlocking s t frame.monitor (fails_to_unlock limits s frame.method below) make)
+  frame_unlocking_keeps make keeps =
+      frame_unlocking_one frame.monitor (fails_to_unlock limits s frame.method below) make
       (fails_keeps (exception_of limits s thrown.IllegalMonitorStateException) (is_empty below) (exception_is_thrown program limits s stands.sound thrown.IllegalMonitorStateException))
       keeps

@@ -22,7 +22,7 @@ use Rattle.jvms_machine.specs.Start.{Start}
 use Rattle.jvms_machine.specs.Exceptions.{exception_reference}
 use Rattle.jvms_machine.specs.Unwinding.{handler_of, popped_decision, handler_decision, is_error, failed_with, top_decision, object_decision, unwinding_decision, throwable_decision, throw_top, throw_decision}
 use Rattle.jvms_machine.specs.Monitors.{is_empty}
-use Rattle.jvms_machine.specs.Actions.{with_unlock, without_arguments, stack_without_operands, top_operands, after_throw, handling, top_handling, caught, with_pending, unwound, with_changed, with_initialisation, with_exception, applied_to, items_of}
+use Rattle.jvms_machine.specs.Actions.{with_unlock, without_arguments, stack_without_operands, top_operands, after_throw, frame_at_handler, top_handling, caught, with_pending, unwound, with_changed, with_initialisation, with_exception, applied_to, items_of}
 use Rattle.jvms_machine.specs.Marks.{calls, calls_in, calls_of}
 use Rattle.jvms_machine.specs.Turn.{HasRoomToHandle}
 use Rattle.jvms_machine.proofs.InitialisationOrder.{order_over, count_call}
@@ -32,7 +32,7 @@ use Rattle.jvms_machine.proofs.StoredValues.{leads_is_reference}
 use Rattle.jvms_machine.proofs.KeptStates.{IsLeft, Keeps, still}
 use Rattle.jvms_machine.proofs.ExceptionSoundness.{throwable_by, IsThrown, exception_is_thrown, exception_is_throwable, stands_with_exception}
 use Rattle.jvms_machine.proofs.LockSoundness.{stands_with_unlock}
-use Rattle.jvms_machine.proofs.UnlockSoundness.{unlocking_keeps}
+use Rattle.jvms_machine.proofs.UnlockSoundness.{frame_unlocking_keeps}
 use Rattle.jvms_machine.proofs.EffectSoundness.{if_deep_keeps}
 use Rattle.jvms_machine.proofs.ArraySoundness.{with_object_keeps}
 
@@ -87,7 +87,7 @@ module _ (program : List Class) (limits : Limits) (start : Start) (s : State) (t
     catches_keeps r target pending room =
         let frames = frames_are_stack stands in
         let is = frames.0.0 in
-        let after = handling r target frame in
+        let after = frame_at_handler r target frame in
         let now = stack_frame.Call after ∷ below in
         let are : (caught r target thread).frames ≡ now = ap (top_handling r target) stands.frames_are in (
           (λ _. struck_is_sound stands (caught r target) now are tt (refl, refl)
@@ -117,7 +117,7 @@ module _ (program : List Class) (limits : Limits) (start : Start) (s : State) (t
         )
 
     popped_keeps : KeepsSound (popped_decision limits s t frame below)
-    popped_keeps = unlocking_keeps program limits start s t thread frame below stands _ (λ unlock is_left. unwinds_keeps (is_empty below) unlock is_left)
+    popped_keeps = frame_unlocking_keeps program limits start s t thread frame below stands _ (λ unlock is_left. unwinds_keeps (is_empty below) unlock is_left)
 
     handler_keeps : (r : ℕ) (o : Option ExceptionHandler) → thread.pending ≡ Some r → KeepsSound (handler_decision limits s t frame below r o)
     handler_keeps r None pending = popped_keeps

@@ -15,7 +15,7 @@ use Rattle.jvms_machine.specs.Start.{Start}
 use Rattle.jvms_machine.specs.Status.{is_enabled}
 use Rattle.jvms_machine.specs.Unwinding.{CanBeUnwound, handler_of, popped_decision, handler_decision, failed_with, top_decision, object_decision, unwinding_decision}
 use Rattle.jvms_machine.specs.Exceptions.{exception_of}
-use Rattle.jvms_machine.specs.Monitors.{is_empty, leaving, unlocking}
+use Rattle.jvms_machine.specs.Monitors.{is_empty, monitor_exit, frame_unlocking}
 use Rattle.jvms_machine.specs.Turn.{started_decision, thread_decision, decide, turn}
 use Rattle.jvms_machine.proofs.ThreadChanges.{Stands, pending_is}
 use Rattle.jvms_machine.proofs.UnmadeTurns.{action_is_enabled}
@@ -33,17 +33,17 @@ reference_leads heap (suc i) is = (get_or heap i (text []), slice_get-get_or hea
 module _ (program : List Class) (limits : Limits) (s : State) where
   -- ---- The top frame
 
-  unlocking_by : (t r : ℕ) (o : Option MonitorUse) (fails : TurnDecision) (make : Option MonitorUse → TurnDecision) → o ≡ leaving s t r → IsMade fails → ((unlock : Option MonitorUse) → IsMade (make unlock)) → IsMade (unlocking s t (Some r) fails make)
-  unlocking_by t r None fails make e fail made = rw (← e) fail
-  unlocking_by t r (Some monitor) fails make e fail made = rw (← e) (made (Some monitor))
+  frame_unlocking_by : (t r : ℕ) (o : Option MonitorUse) (fails : TurnDecision) (make : Option MonitorUse → TurnDecision) → o ≡ monitor_exit s t r → IsMade fails → ((unlock : Option MonitorUse) → IsMade (make unlock)) → IsMade (frame_unlocking s t (Some r) fails make)
+  frame_unlocking_by t r None fails make e fail made = rw (← e) fail
+  frame_unlocking_by t r (Some monitor) fails make e fail made = rw (← e) (made (Some monitor))
 
-  unlocking_is_made : (t : ℕ) (o : Option ℕ) (fails : TurnDecision) (make : Option MonitorUse → TurnDecision) → IsMade fails → ((unlock : Option MonitorUse) → IsMade (make unlock)) → IsMade (unlocking s t o fails make)
-  unlocking_is_made t None fails make fail made = made None
-  unlocking_is_made t (Some r) fails make fail made = unlocking_by t r (leaving s t r) fails make refl fail made
+  frame_unlocking_is_made : (t : ℕ) (o : Option ℕ) (fails : TurnDecision) (make : Option MonitorUse → TurnDecision) → IsMade fails → ((unlock : Option MonitorUse) → IsMade (make unlock)) → IsMade (frame_unlocking s t o fails make)
+  frame_unlocking_is_made t None fails make fail made = made None
+  frame_unlocking_is_made t (Some r) fails make fail made = frame_unlocking_by t r (monitor_exit s t r) fails make refl fail made
 
   popped_is_made : (t : ℕ) (f : MethodFrame) (below : List Frame) → IsMade (popped_decision limits s t f below)
   popped_is_made t f below =
-      unlocking_is_made t f.monitor _ _
+      frame_unlocking_is_made t f.monitor _ _
       (action_is_enabled (action.FailsToUnlock f.method (exception_of limits s thrown.IllegalMonitorStateException) (is_empty below)))
       (λ unlock. action_is_enabled (action.Unwinds f.method (is_empty below) unlock))
 

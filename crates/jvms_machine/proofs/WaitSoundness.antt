@@ -19,7 +19,7 @@ use Rattle.jvms_program.specs.declared.thrown.Thrown.TheVariants as thrown
 use Rattle.jvms_machine.specs.Decisions.{TurnDecision}
 use Rattle.jvms_machine.specs.State.{State, Thread, Frame, MethodFrame, monitor_at, waits_for, is_initialisation_of, IsAtInvoke, IsFrame, IsHold, IsReference, IsStack, IsThread, IsWait, Sound}
 use Rattle.jvms_machine.specs.Start.{Start}
-use Rattle.jvms_machine.specs.Fields.{taking}
+use Rattle.jvms_machine.specs.Fields.{next_action}
 use Rattle.jvms_machine.specs.Actions.{changed_to, without_arguments, put_to_wait, stack_without_operands, top_operands, with_changed, with_waiter, applied_to, items_of}
 use Rattle.jvms_machine.specs.Marks.{calls_in, calls_of}
 use Rattle.jvms_machine.specs.Waiting.{freed_monitor, object_native_decision, owner_decision, waits_or_notifies, without_notified}
@@ -137,9 +137,9 @@ module _ (program : List Class) (limits : Limits) (start : Start) (s : State) (t
 
   -- ---- The native methods
 
-  notifies_keeps : (r : ℕ) (all : Bool) → 1 ≤ length frame.activation.operands → KeepsSound (decision.Applies (action.Reaches (effect.Notifies r all) (taking 1 frame.activation)))
+  notifies_keeps : (r : ℕ) (all : Bool) → 1 ≤ length frame.activation.operands → KeepsSound (decision.Applies (action.Reaches (effect.Notifies r all) (next_action 1 frame.activation)))
   notifies_keeps r all there =
-      reaches_keeps program limits start s t thread frame below stands (effect.Notifies r all) (taking 1 frame.activation)
+      reaches_keeps program limits start s t thread frame below stands (effect.Notifies r all) (next_action 1 frame.activation)
       (λ _. record { sound = notified_is_sound stands.sound r all; room = there; value = tt; heard = tt; can_be_made = λ _. tt })
 
   owned_keeps : IsAtInvoke (stack_frame.Call frame ∷ below) → IsQuiet thread → (m : Method) (r : ℕ) (o : Option Hold) → monitor_at s.monitors r ≡ o → 1 ≤ length frame.activation.operands → KeepsSound (owner_decision limits s t thread o (waits_or_notifies frame.activation m r))

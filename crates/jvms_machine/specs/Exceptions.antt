@@ -53,10 +53,10 @@ exception_reference s (exception.Existing r) = r
 -- ---- The turn that throws
 
 -- Returns the decision to throw. With a frame the exception is pending after the turn, and without one the thread ends.
-abbrev pub raising : List Frame → Exception → TurnDecision
-raising [] e = decision.Applies (action.Fails e)
-raising (f ∷ below) e = decision.Applies (action.Raises e)
+abbrev pub raise_decision : List Frame → Exception → TurnDecision
+raise_decision [] e = decision.Applies (action.Fails e)
+raise_decision (f ∷ below) e = decision.Applies (action.Raises e)
 
 -- Returns the decision that the turn of this thread throws an exception of this class.
 unfoldable pub throws : Limits → State → Thread → Thrown → TurnDecision
-throws limits s thread class = raising thread.frames (exception_of limits s class)
+throws limits s thread class = raise_decision thread.frames (exception_of limits s class)

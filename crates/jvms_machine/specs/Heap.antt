@@ -6,7 +6,7 @@ use Rattle.jvms_machine.specs.declared.value.Value.TheVariants as value
 use Rattle.jvms_machine.specs.declared.machine.Limits.{Limits}
 use Rattle.jvms_file.specs.declared.descriptor.Primitive.TheVariants as primitive
 use Rattle.jvms_file.specs.declared.insn.Narrow.TheVariants as narrow
-use Rattle.jvms_file.specs.Numbers.{narrowing}
+use Rattle.jvms_file.specs.Numbers.{narrowed_int}
 use Rattle.std.specs.Map.{lookup}
 use Rattle.jvms_file.specs.declared.descriptor.Element.{Element}
 use Rattle.jvms_file.specs.declared.descriptor.Element.TheVariants as element
@@ -35,10 +35,10 @@ next_reference heap = length heap + 1
 -- Narrows an int to an element type. Bytes, chars and shorts are narrowed, and of a boolean the lowest bit is kept
 -- (own).
 abbrev pub narrowed_to : Element → ℤ → ℤ
-narrowed_to (element.Primitive primitive.Byte) n = narrowing narrow.Byte n
-narrowed_to (element.Primitive primitive.Char) n = narrowing narrow.Char n
-narrowed_to (element.Primitive primitive.Short) n = narrowing narrow.Short n
-narrowed_to (element.Primitive primitive.Boolean) n = narrowing narrow.Boolean n
+narrowed_to (element.Primitive primitive.Byte) n = narrowed_int narrow.Byte n
+narrowed_to (element.Primitive primitive.Char) n = narrowed_int narrow.Char n
+narrowed_to (element.Primitive primitive.Short) n = narrowed_int narrow.Short n
+narrowed_to (element.Primitive primitive.Boolean) n = narrowed_int narrow.Boolean n
 narrowed_to _ n = n
 
 -- Returns a value in the form that a field, or an array's element, of a type stores.

@@ -61,8 +61,9 @@ requiring_class_in program limits s t thread class (Some initialisation.Done) co
 requiring_class_in program limits s t thread class (Some initialisation.Erroneous) continued =
     throws limits s thread thrown.NoClassDefFoundError
 
-abbrev pub asking : List Class → Limits → State → ℕ → Thread → ℕ → TurnDecision → TurnDecision
-asking program limits s t thread class continued =
+-- Decides the use of a class. If it has to be initialised first, the decision is that of its initialisation.
+abbrev pub class_use_decision : List Class → Limits → State → ℕ → Thread → ℕ → TurnDecision → TurnDecision
+class_use_decision program limits s t thread class continued =
     requiring_class_in program limits s t thread class (slice_get s.initialisations class) continued
 
 -- ---- A turn with an initialisation on top
@@ -93,7 +94,7 @@ initializer_decision limits s thread c class (Some n) =
 -- Decides the initialisation of the superclass, which comes first.
 abbrev pub superclass_decision : List Class → Limits → State → ℕ → Thread → Option ℕ → TurnDecision → TurnDecision
 superclass_decision program limits s t thread None continued = continued
-superclass_decision program limits s t thread (Some super) continued = asking program limits s t thread super continued
+superclass_decision program limits s t thread (Some super) continued = class_use_decision program limits s t thread super continued
 
 -- Decides a turn with an initialisation on top. The superclass comes first, then the call of `<clinit>`. The class is
 -- done if there is no `<clinit>` or it has returned.

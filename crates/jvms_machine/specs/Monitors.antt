@@ -49,42 +49,42 @@ left_monitor r monitors = once_less (monitor_at monitors r)
 
 -- Decides the entry of an object's monitor. A monitor of another thread blocks the turn. One can't be entered more than
 -- 4,294,967,295 times (own).
-abbrev pub entering_held : Limits → State → ℕ → Thread → ℕ → Option Hold → (MonitorUse → TurnDecision) → TurnDecision
-entering_held limits s t thread r None make = make (record { reference = r; outermost = true })
-entering_held limits s t thread r (Some h) make =
+abbrev pub monitor_entry_by_hold : Limits → State → ℕ → Thread → ℕ → Option Hold → (MonitorUse → TurnDecision) → TurnDecision
+monitor_entry_by_hold limits s t thread r None make = make (record { reference = r; outermost = true })
+monitor_entry_by_hold limits s t thread r (Some h) make =
     if not (h.owner == t) then decision.Stays (outcome.Blocked (blocked.Monitor r h.owner))
     else (if h.count == 4294967295 then throws limits s thread thrown.OutOfMemoryError
     else make (record { reference = r; outermost = false }))
 
-abbrev pub entering : Limits → State → ℕ → Thread → ℕ → (MonitorUse → TurnDecision) → TurnDecision
-entering limits s t thread r make = entering_held limits s t thread r (monitor_at s.monitors r) make
+abbrev pub monitor_entry : Limits → State → ℕ → Thread → ℕ → (MonitorUse → TurnDecision) → TurnDecision
+monitor_entry limits s t thread r make = monitor_entry_by_hold limits s t thread r (monitor_at s.monitors r) make
 
 -- Returns how a thread leaves a monitor, if it is the owner.
-abbrev pub leaving_held : ℕ → ℕ → Option Hold → Option MonitorUse
-leaving_held t r None = None
-leaving_held t r (Some h) = if h.owner == t then Some (record { reference = r; outermost = h.count == 1 }) else None
+abbrev pub monitor_exit_by_hold : ℕ → ℕ → Option Hold → Option MonitorUse
+monitor_exit_by_hold t r None = None
+monitor_exit_by_hold t r (Some h) = if h.owner == t then Some (record { reference = r; outermost = h.count == 1 }) else None
 
-abbrev pub leaving : State → ℕ → ℕ → Option MonitorUse
-leaving s t r = leaving_held t r (monitor_at s.monitors r)
+abbrev pub monitor_exit : State → ℕ → ℕ → Option MonitorUse
+monitor_exit s t r = monitor_exit_by_hold t r (monitor_at s.monitors r)
 
 -- ---- Synchronized methods
 
 -- Decides the entry of the monitor of an existing object by a call.
 abbrev pub object_locking : Limits → State → ℕ → Thread → Option ℕ → (Lock → TurnDecision) → TurnDecision
 object_locking limits s t thread None make = never_seen
-object_locking limits s t thread (Some r) make = entering limits s t thread r (λ monitor. make (lock.Monitor monitor))
+object_locking limits s t thread (Some r) make = monitor_entry limits s t thread r (λ monitor. make (lock.Monitor monitor))
 
 -- Decides the entry of the monitor of a class's object by a call. The object is created at its first use.
 abbrev pub class_locking : Limits → State → ℕ → Thread → ℕ → Option ℕ → (Lock → TurnDecision) → TurnDecision
-class_locking limits s t thread class (Some r) make = entering limits s t thread r (λ monitor. make (lock.Monitor monitor))
+class_locking limits s t thread class (Some r) make = monitor_entry limits s t thread r (λ monitor. make (lock.Monitor monitor))
 class_locking limits s t thread class None make =
     if has_room_for 1 limits s then make (lock.NewClass class (next_reference s.heap))
     else throws limits s thread thrown.OutOfMemoryError
 
 -- Decides what a call of a method enters: the monitor of the receiver, or of its class's object, if the method is
 -- synchronized.
-abbrev pub locking : List Class → Limits → State → ℕ → Thread → MethodNumber → Method → Option ℕ → (Lock → TurnDecision) → TurnDecision
-locking program limits s t thread n m receiver make =
+abbrev pub call_locking : List Class → Limits → State → ℕ → Thread → MethodNumber → Method → Option ℕ → (Lock → TurnDecision) → TurnDecision
+call_locking program limits s t thread n m receiver make =
     if not m.flags.is_synchronized then make lock.Nothing
     else (if m.flags.is_static
     then class_locking limits s t thread n.class (class_reference s.heap (class_name_at program n.class)) make
@@ -99,9 +99,9 @@ locked_reference (lock.NewClass class r) = Some r
 -- ---- Popped calls
 
 -- Decides how a call leaves the monitor of its frame, if it has one. A thread that isn't the owner can't.
-abbrev pub unlocking : State → ℕ → Option ℕ → TurnDecision → (Option MonitorUse → TurnDecision) → TurnDecision
-unlocking s t None fails make = make None
-unlocking s t (Some r) fails make = left (leaving s t r)
+abbrev pub frame_unlocking : State → ℕ → Option ℕ → TurnDecision → (Option MonitorUse → TurnDecision) → TurnDecision
+frame_unlocking s t None fails make = make None
+frame_unlocking s t (Some r) fails make = left (monitor_exit s t r)
   where
     left : Option MonitorUse → TurnDecision
     left None = fails

@@ -15,7 +15,7 @@ use Rattle.jvms_file.specs.Names.{same_text}
 use Rattle.jvms_machine.specs.Decisions.{TurnDecision, bad, never_seen}
 use Rattle.jvms_machine.specs.State.{State, Thread, Activation, Object, text, object_at}
 use Rattle.jvms_machine.specs.Exceptions.{throws}
-use Rattle.jvms_machine.specs.Fields.{reaches, taking}
+use Rattle.jvms_machine.specs.Fields.{reaches, next_action}
 use Rattle.jvms_machine.specs.Places.{whole_top}
 use Rattle.jvms_machine.specs.Threads.{thread_native_decision}
 use Rattle.jvms_machine.specs.Waiting.{object_native_decision}
@@ -23,7 +23,7 @@ use Rattle.jvms_machine.specs.Waiting.{object_native_decision}
 -- Returns the decision to print. It takes all operands of the call: the receiver, and the printed value, except for
 -- `println()V`.
 abbrev pub prints : Activation → ℕ → Printed → Bool → TurnDecision
-prints a takes what ends_line = reaches (effect.Prints what ends_line) (taking takes a)
+prints a takes what ends_line = reaches (effect.Prints what ends_line) (next_action takes a)
 
 -- Decides the print of an object. Strings print, and any other object is of a wrong kind.
 abbrev pub object_printed : Activation → ℕ → Bool → ℕ → Option Object → TurnDecision

@@ -21,9 +21,9 @@ use Rattle.jvms_program.specs.Resolution.{class_exists, fits}
 use Rattle.jvms_machine.specs.Decisions.{TurnDecision, bad, never_seen}
 use Rattle.jvms_machine.specs.State.{State, Thread, MethodFrame, Object, object_at, class_of, text_reference, class_reference}
 use Rattle.jvms_machine.specs.Exceptions.{throws, has_room_for}
-use Rattle.jvms_machine.specs.Initialisation.{asking}
-use Rattle.jvms_machine.specs.Fields.{reaches, taking}
-use Rattle.jvms_machine.specs.Arrays.{if_deep, making, new_class_array_decision}
+use Rattle.jvms_machine.specs.Initialisation.{class_use_decision}
+use Rattle.jvms_machine.specs.Fields.{reaches, next_action}
+use Rattle.jvms_machine.specs.Arrays.{if_deep, creation_decision, new_class_array_decision}
 
 -- ---- new
 
@@ -35,12 +35,12 @@ is_instantiable class_kind.Interface = false
 -- Decides the creation of an object, if there is room for one.
 abbrev pub creation_if_room : Limits → State → Thread → ℕ → NewObject (List ℕ) → TurnDecision
 creation_if_room limits s thread takes what =
-    if has_room_for 1 limits s then making s takes what else throws limits s thread thrown.OutOfMemoryError
+    if has_room_for 1 limits s then creation_decision s takes what else throws limits s thread thrown.OutOfMemoryError
 
 abbrev pub instance_of_number : List Class → Limits → State → ℕ → Thread → Option ℕ → TurnDecision
 instance_of_number program limits s t thread None = never_seen
 instance_of_number program limits s t thread (Some class) =
-    asking program limits s t thread class (creation_if_room limits s thread 0 (new_object.Instance class))
+    class_use_decision program limits s t thread class (creation_if_room limits s thread 0 (new_object.Instance class))
 
 -- Decides JVMS 6.5 `new`. It tests that the class exists, that it is neither abstract nor an interface, its
 -- initialisation, and the room, in this order.
@@ -64,7 +64,7 @@ with_class_of program limits s thread name (value.Reference r ∷ below) null on
 with_class_of program limits s thread name _ null on_result = bad cause.Kind
 
 abbrev pub cast : Limits → State → Thread → MethodFrame → Bool → TurnDecision
-cast limits s thread frame true = reaches effect.Nothing (taking 0 frame.activation)
+cast limits s thread frame true = reaches effect.Nothing (next_action 0 frame.activation)
 cast limits s thread frame false = throws limits s thread thrown.ClassCastException
 
 abbrev pub instance_test_result : Bool → TurnDecision
@@ -80,7 +80,7 @@ class_decision program limits s t thread frame class_use.NewArray name =
     new_class_array_decision program limits s thread frame name
 class_decision program limits s t thread frame class_use.CheckCast name =
     if_deep frame 1 1
-    (with_class_of program limits s thread name frame.activation.operands (reaches effect.Nothing (taking 0 frame.activation)) (cast limits s thread frame))
+    (with_class_of program limits s thread name frame.activation.operands (reaches effect.Nothing (next_action 0 frame.activation)) (cast limits s thread frame))
 class_decision program limits s t thread frame class_use.InstanceOf name =
     if_deep frame 1 1 (with_class_of program limits s thread name frame.activation.operands (instance_test_result false) instance_test_result)
 

@@ -15,7 +15,7 @@ use Rattle.jvms_program.specs.declared.thrown.Thrown.TheVariants as thrown
 use Rattle.jvms_machine.specs.Decisions.{TurnDecision, never_seen}
 use Rattle.jvms_machine.specs.State.{State, Thread, Activation, same_object}
 use Rattle.jvms_machine.specs.Exceptions.{throws}
-use Rattle.jvms_machine.specs.Fields.{reaches, taking}
+use Rattle.jvms_machine.specs.Fields.{reaches, next_action}
 
 -- Returns the thread that was started by a Thread object.
 abbrev pub thread_of : List Thread → ℕ → Option ℕ
@@ -25,18 +25,18 @@ thread_of threads r = position (λ thread. same_object thread.object (Some r)) t
 abbrev pub start_decision : Limits → State → Thread → Activation → ℕ → Option ℕ → TurnDecision
 start_decision limits s thread a r (Some u) = throws limits s thread thrown.IllegalThreadStateException
 start_decision limits s thread a r None =
-    if nat_lt (length s.threads) limits.threads then reaches (effect.Starts r (length s.threads)) (taking 1 a)
+    if nat_lt (length s.threads) limits.threads then reaches (effect.Starts r (length s.threads)) (next_action 1 a)
     else throws limits s thread thrown.OutOfMemoryError
 
 -- Decides a join. The turn is blocked until the thread has ended. A thread that wasn't started isn't waited for.
 abbrev pub join_decision : State → Activation → Option ℕ → TurnDecision
-join_decision s a None = reaches effect.Nothing (taking 1 a)
+join_decision s a None = reaches effect.Nothing (next_action 1 a)
 join_decision s a (Some u) = of_thread (slice_get s.threads u)
   where
     of_thread : Option Thread → TurnDecision
     of_thread None = never_seen
     of_thread (Some other) =
-        if other.ended then reaches (effect.Joins u) (taking 1 a) else decision.Stays (outcome.Blocked (blocked.Join u))
+        if other.ended then reaches (effect.Joins u) (next_action 1 a) else decision.Stays (outcome.Blocked (blocked.Join u))
 
 -- Decides a call of `start` or `join` for the Thread object on top.
 abbrev pub thread_native_decision : Limits → State → Thread → Activation → Method → List Value → TurnDecision

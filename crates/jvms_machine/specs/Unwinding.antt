@@ -15,7 +15,7 @@ use Rattle.jvms_machine.specs.declared.action.Action.TheVariants as action
 use Rattle.jvms_machine.specs.declared.action.Decision.TheVariants as decision
 use Rattle.jvms_machine.specs.declared.action.Exception.{Exception}
 use Rattle.jvms_machine.specs.declared.action.Exception.TheVariants as exception
-use Rattle.jvms_machine.specs.Monitors.{fails_to_unlock, is_empty, unlocking}
+use Rattle.jvms_machine.specs.Monitors.{fails_to_unlock, is_empty, frame_unlocking}
 use Rattle.jvms_program.specs.Resolution.{fits}
 use Rattle.jvms_machine.specs.Decisions.{TurnDecision, bad, never_seen}
 use Rattle.jvms_machine.specs.State.{State, Thread, Frame, MethodFrame, Object, object_at, class_of}
@@ -44,7 +44,7 @@ handler_of program class f = find (handles program class f.activation.place) f.b
 -- Decides that a call is popped, and leaves its monitor.
 abbrev pub popped_decision : Limits → State → ℕ → MethodFrame → List Frame → TurnDecision
 popped_decision limits s t f below =
-    unlocking s t f.monitor (fails_to_unlock limits s f.method below)
+    frame_unlocking s t f.monitor (fails_to_unlock limits s f.method below)
     (λ unlock. decision.Applies (action.Unwinds f.method (is_empty below) unlock))
 
 -- Decides the turn with this handler. It needs room for the object. Without a handler the call is popped.

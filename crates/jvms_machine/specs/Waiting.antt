@@ -19,7 +19,7 @@ use Rattle.jvms_program.specs.declared.thrown.Thrown.TheVariants as thrown
 use Rattle.jvms_machine.specs.Decisions.{TurnDecision, never_seen}
 use Rattle.jvms_machine.specs.State.{State, Thread, Activation, monitor_at}
 use Rattle.jvms_machine.specs.Exceptions.{throws}
-use Rattle.jvms_machine.specs.Fields.{reaches, taking}
+use Rattle.jvms_machine.specs.Fields.{reaches, next_action}
 use Rattle.jvms_machine.specs.Monitors.{with_hold}
 
 -- ---- The changes by a wait
@@ -55,7 +55,7 @@ owner_decision limits s t thread (Some h) make =
 abbrev pub waits_or_notifies : Activation → Method → ℕ → ℕ → TurnDecision
 waits_or_notifies a m r count =
     if same_text m.name (codes "wait") then decision.Applies (action.Waits (record { reference = r; count = count }))
-    else reaches (effect.Notifies r (same_text m.name (codes "notifyAll"))) (taking 1 a)
+    else reaches (effect.Notifies r (same_text m.name (codes "notifyAll"))) (next_action 1 a)
 
 -- Decides a call of `wait`, `notify` or `notifyAll` for the object on top.
 abbrev pub object_native_decision : Limits → State → ℕ → Thread → Activation → Method → List Value → TurnDecision
@@ -64,12 +64,12 @@ object_native_decision limits s t thread a m (value.Reference r ∷ below) =
 object_native_decision limits s t thread a m _ = never_seen
 
 -- Decides that a notified thread retakes the monitor, once it is free.
-abbrev pub retaking : Wait → Option Hold → TurnDecision
-retaking w (Some h) = decision.Stays (outcome.Blocked (blocked.Monitor w.reference h.owner))
-retaking w None = decision.Applies (action.Retakes w)
+abbrev pub retake_decision : Wait → Option Hold → TurnDecision
+retake_decision w (Some h) = decision.Stays (outcome.Blocked (blocked.Monitor w.reference h.owner))
+retake_decision w None = decision.Applies (action.Retakes w)
 
 -- Decides the turn of a waiting thread. The turn is blocked until the thread is notified and the monitor is free.
 unfoldable pub waiting_decision : State → ℕ → Wait → TurnDecision
 waiting_decision s t w =
     if is_waiter t s.waiters then decision.Stays (outcome.Blocked (blocked.Wait w.reference))
-    else retaking w (monitor_at s.monitors w.reference)
+    else retake_decision w (monitor_at s.monitors w.reference)

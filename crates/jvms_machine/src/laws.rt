@@ -8,7 +8,7 @@ ghost use Rattle.jvms_program.specs.declared.program.Class.{Class};
 ghost use Rattle.jvms_program.specs.Slots.{instance_keys, static_keys};
 ghost use Rattle.jvms_machine.specs.Examples.{gcd_entry, gcd_outcomes, run_of_bytes};
 ghost use Rattle.jvms_machine.specs.declared.machine.Limits.{Limits};
-ghost use Rattle.jvms_machine.specs.Run.{joined, run_from};
+ghost use Rattle.jvms_machine.specs.Run.{joined_results, run_from};
 ghost use Rattle.jvms_machine.specs.Start.{Start};
 ghost use Rattle.jvms_machine.specs.State.{State, instance_fields, keys, static_fields};
 
@@ -35,6 +35,7 @@ pub fn the_keys_of_static_fields_are_those_of_the_program()
 /// after it. Outcomes and items are concatenated.
 pub fn a_run_continues_another()
     ensures { (program : List Class) (limits : Limits) (start : Start) (s : State) (xs ys : List ℕ)
-        → run_from program limits start s (xs ++ ys) ≡ joined (run_from program limits start s xs)
+        → run_from program limits start s (xs ++ ys)
+        ≡ joined_results (run_from program limits start s xs)
         (run_from program limits start (run_from program limits start s xs).state ys) }
 {}

@@ -8,7 +8,7 @@ use Rattle.jvms_file.specs.ConstantPool.{utf8_of, utf8_at}
 use Rattle.jvms_file.specs.Descriptors.{field_type_of, field_type_from, method_type_of}
 use Rattle.jvms_file.specs.Descriptors.{field_type, method_type}
 use Rattle.linker.specs.declared.spelled.TypedText.{TypedText}
-use Rattle.linker.specs.Spelled.{spelled, typed_text_of}
+use Rattle.linker.specs.Spelled.{typed_text, typed_text_of}
 
 nothing_is_no_field : field_type_of [] ≡ None
 unfolding field_type_from
@@ -25,18 +25,18 @@ no_field text none = rw (none, nothing_is_no_field) refl
 pub no_method : (text : List ℕ) → method_type_of text ≡ None → method_type [] ≡ method_type text
 no_method text none = rw (none, nothing_is_no_method) refl
 
-flat : (e : Option Constant) → option_and_then (λ s. s) (option_map typed_text_of e) ≡ option_map spelled (option_and_then utf8_of e)
+flat : (e : Option Constant) → option_and_then (λ s. s) (option_map typed_text_of e) ≡ option_map typed_text (option_and_then utf8_of e)
 flat None = refl
 flat (Some c) = refl
 
 -- The text at a number's place among all entries.
-pub spelled_at : (pool : List Constant) (number : ℕ) → 0 < number → option_and_then (λ s. s) (slice_get (map typed_text_of pool) (number - 1)) ≡ option_map spelled (utf8_at pool number)
+pub spelled_at : (pool : List Constant) (number : ℕ) → 0 < number → option_and_then (λ s. s) (slice_get (map typed_text_of pool) (number - 1)) ≡ option_map typed_text (utf8_at pool number)
 spelled_at pool zero some = absurd (omega arith)
 spelled_at pool (suc i) some =
     let place : suc i - 1 ≡ i = omega arith in
     rw place (ap (λ o. option_and_then (λ s. s) o) (slice_get-map typed_text_of pool i) ∙ flat (slice_get pool i))
 
 -- The text that is found, or else the empty text.
-pub found_spelled : (text : Option (List ℕ)) (s : TypedText) → Some s ≡ option_map spelled text → s ≡ spelled (unwrap_or text [])
+pub found_spelled : (text : Option (List ℕ)) (s : TypedText) → Some s ≡ option_map typed_text text → s ≡ typed_text (unwrap_or text [])
 found_spelled None s is = absurd (none-some s (sym is))
-found_spelled (Some t) s is = same_Some s (spelled t) is
+found_spelled (Some t) s is = same_Some s (typed_text t) is

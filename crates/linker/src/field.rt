@@ -30,7 +30,7 @@ fn field_of(texts: &Texts, in_interface: bool, info: &FieldInfo) -> Result<Field
     ensures { IfOk result (λ f. f ≡ field_of texts.now in_interface info.now) }
 {
     let flags = Flags::of_access(info.access);
-    let descriptor = texts.spelled(info.descriptor);
+    let descriptor = texts.typed_text(info.descriptor);
     Ok(Field {
         name: texts.text(info.name)?,
         descriptor: descriptor.text.share()?,

@@ -43,7 +43,7 @@ fn method_of(alloc: Global, texts: &Texts, info: &MethodInfo) -> Result<Method, 
     ensures { IfOk result (λ m. m ≡ method_of texts.now info.now) }
 {
     let attributes = info.attributes.as_slice();
-    let descriptor = texts.spelled(info.descriptor);
+    let descriptor = texts.typed_text(info.descriptor);
     Ok(Method {
         name: texts.text(info.name)?,
         descriptor: descriptor.text.share()?,

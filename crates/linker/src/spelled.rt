@@ -5,7 +5,7 @@ ghost use Rattle.std.specs.Prelude.{◌≡◌, [], map, IfOk};
 ghost use Rattle.std.specs.Option.{option_map};
 ghost use Rattle.jvms_file.specs.ConstantPool.{utf8_of};
 ghost use Rattle.jvms_file.specs.Descriptors.{field_type as field_type_or_int, method_type as method_type_or_none};
-ghost use Rattle.linker.specs.Spelled.{spelled, typed_text_of};
+ghost use Rattle.linker.specs.Spelled.{typed_text, typed_text_of};
 
 use const_pool::Constant;
 use descriptor::{DescriptorFault, field_type, method_type, parse_field, parse_method};
@@ -25,7 +25,7 @@ pub(crate) struct TypedText {
 
 /// Returns the empty text with its types.
 pub(crate) fn spelled_by_nothing(alloc: Global) -> Result<TypedText, AllocError>
-    ensures { IfOk result (λ s. s ≡ spelled []) }
+    ensures { IfOk result (λ s. s ≡ typed_text []) }
 {
     let field = field_type(alloc, &[])?;
     let method = method_type(alloc, &[])?;
@@ -72,8 +72,8 @@ fn method_type_of(
 
 /// Returns a text with its types.
 fn typed_text_by(alloc: Global, text: &[u16], nothing: &TypedText) -> Result<TypedText, AllocError>
-    requires { nothing.now ≡ spelled [] }
-    ensures { IfOk result (λ s. s ≡ spelled text.now) }
+    requires { nothing.now ≡ typed_text [] }
+    ensures { IfOk result (λ s. s ≡ typed_text text.now) }
 {
     let field_type = field_type_of(alloc, text, &nothing.field_type)?;
     let method_type = method_type_of(alloc, text, &nothing.method_type)?;
@@ -90,7 +90,7 @@ fn typed_text_of(
     entry: &Constant,
     nothing: &TypedText,
 ) -> Result<Option<TypedText>, AllocError>
-    requires { nothing.now ≡ spelled [] }
+    requires { nothing.now ≡ typed_text [] }
     ensures { IfOk result (λ s. s ≡ typed_text_of entry.now) }
 {
     match entry {
@@ -105,7 +105,7 @@ pub(crate) fn all_typed_texts(
     entries: &[Constant],
     nothing: &TypedText,
 ) -> Result<Vec<Option<TypedText>>, AllocError>
-    requires { nothing.now ≡ spelled [] }
+    requires { nothing.now ≡ typed_text [] }
     ensures { IfOk result (λ v. v.items ≡ map typed_text_of entries.now) }
 {
     let mut all = Vec::with_capacity(alloc, entries.len())?;

@@ -4,7 +4,7 @@ ghost use Rattle.std.specs.Prelude.{◌≡◌, IfOk, map, slice_get};
 ghost use Rattle.std.specs.Option.{option_and_then, option_copied, option_map};
 ghost use Rattle.jvms_file.specs.ConstantPool.{utf8_at};
 ghost use Rattle.jvms_program.specs.Meaning.{text_of, class_text, name_and_type};
-ghost use Rattle.linker.specs.Spelled.{spelled};
+ghost use Rattle.linker.specs.Spelled.{typed_text};
 
 use crate::spelled::{TypedText, all_typed_texts, spelled_by_nothing};
 use const_pool::{Constant, Pool};
@@ -26,7 +26,7 @@ pub(crate) struct Texts {
 impl Model for Texts {
     ghost use Rattle.std.specs.Prelude.{List, [], ◌≡◌, map};
     ghost use Rattle.jvms_file.specs.declared.class_file.Constant.{Constant};
-    ghost use Rattle.linker.specs.Spelled.{spelled as spelled_text, typed_text_of};
+    ghost use Rattle.linker.specs.Spelled.{typed_text as spelled_text, typed_text_of};
 
     ghost Value = { List Constant };
 
@@ -62,7 +62,7 @@ impl Texts {
         let spelled = all_typed_texts(alloc, pool.entries().as_slice(), &nothing)?;
         Ok(Texts {
             pool,
-            spelled,
+            typed_text,
             nothing,
         })
     }
@@ -77,7 +77,7 @@ impl Texts {
     /// Returns the text of a Utf8 entry with its types (JVMS 4.4.7), if a number is one's.
     #[tactic(auto, using(crate::proofs::SpelledTexts::spelled_at))]
     fn found(&self, number: u16) -> Option<&TypedText>
-        ensures { option_copied result ≡ option_map spelled (utf8_at self.now number) }
+        ensures { option_copied result ≡ option_map typed_text (utf8_at self.now number) }
     {
         if number == 0 {
             return None;
@@ -87,8 +87,8 @@ impl Texts {
 
     /// Returns the text of a Utf8 entry with its types, or the empty text if the number is none's.
     #[tactic(auto, using(crate::proofs::SpelledTexts::found_spelled))]
-    pub(crate) fn spelled(&self, number: u16) -> &TypedText
-        ensures { result.now ≡ spelled (text_of self.now number) }
+    pub(crate) fn typed_text(&self, number: u16) -> &TypedText
+        ensures { result.now ≡ typed_text (text_of self.now number) }
     {
         match self.found(number) {
             Some(found) => found,
@@ -100,7 +100,7 @@ impl Texts {
     pub(crate) fn text(&self, number: u16) -> Result<Text, AllocError>
         ensures { IfOk result (λ text. text ≡ text_of self.now number) }
     {
-        self.spelled(number).text.share()
+        self.typed_text(number).text.share()
     }
 
     /// Returns the name of a Class entry (JVMS 4.4.1), or the empty text if the number is none's.
@@ -131,14 +131,14 @@ impl Texts {
     /// Returns the name and the descriptor of a NameAndType entry with their types (JVMS 4.4.6), or empty texts if the
     /// number is none's.
     pub(crate) fn name_and_type(&self, number: u16) -> (&TypedText, &TypedText)
-        ensures name { result.0.now ≡ spelled (name_and_type self.now number).0 }
-        ensures descriptor { result.1.now ≡ spelled (name_and_type self.now number).1 }
+        ensures name { result.0.now ≡ typed_text (name_and_type self.now number).0 }
+        ensures descriptor { result.1.now ≡ typed_text (name_and_type self.now number).1 }
     {
         match self.pool.entry(number) {
             Some(Constant::NameAndType { name, descriptor })
                 if self.pool.is_utf8(*name) && self.pool.is_utf8(*descriptor) => (
-                self.spelled(*name),
-                self.spelled(*descriptor),
+                self.typed_text(*name),
+                self.typed_text(*descriptor),
             ),
             _ => (&self.nothing, &self.nothing),
         }

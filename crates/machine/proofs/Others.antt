@@ -22,7 +22,7 @@ use Rattle.machine_parts.specs.Decided.{decision_value, action_value, effect_val
 use Rattle.machine_parts.specs.Machine.{Machine, IsMachine, decision_of, transition_of, with_state}
 use Rattle.machine_parts.specs.declared.decision.ActionText.{ActionText}
 use Rattle.machine.specs.declared.applying.Turn.{Turn}
-use Rattle.machine.specs.Others.{IsLeft, IsQuietTurn, LeavesOthers}
+use Rattle.machine.specs.Others.{IsAsEnabled, IsQuietTurn, LeavesOthers}
 
 -- ---- Quietness doesn't depend on the texts of an action
 
@@ -90,7 +90,7 @@ returned_quietly m t method value is = ap is_quiet_decision is
 pub quiet_leaves : (m after : Machine) (t : ℕ) → IsMachine m → IsQuietTurn m t → after ≡ with_state m (transition_of m t).state → LeavesOthers m t after
 quiet_leaves m after t is quiet made = subst (LeavesOthers m t) (sym made) (λ u other fit. left u other fit)
   where
-    left : (u : ℕ) → u ≢ t → is_bad (transition_of m u).outcome ≡ false → IsLeft m (with_state m (transition_of m t).state) u
+    left : (u : ℕ) → u ≢ t → is_bad (transition_of m u).outcome ≡ false → IsAsEnabled m (with_state m (transition_of m t).state) u
     left u other fit =
         let both = quiet_leaves_enabled m.program m.limits m.start m.state t u is.classes is.limits is.start is.sound other quiet fit in
         record { enabled = both.0; fit = both.1 }

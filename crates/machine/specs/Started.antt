@@ -14,8 +14,8 @@ abbrev pub with_arguments : Entry → MethodNumber → Start
 with_arguments e n = record { method = n; arguments = entry_arguments e }
 
 -- Returns a machine at its opening.
-abbrev pub opened : List Class → Limits → Start → Machine
-opened program limits start = record { program = program; limits = limits; start = start; state = opening program }
+abbrev pub opened_machine : List Class → Limits → Start → Machine
+opened_machine program limits start = record { program = program; limits = limits; start = start; state = opening program }
 
 -- The fault of a machine that isn't made: the entry is tested first, then the limits, and then memory can run out.
 abbrev pub IsNotMade : List Class → Limits → Entry → MachineFault → Type 0
@@ -26,4 +26,4 @@ IsNotMade program limits e fault.Memory = IsTrue (is_ok (start_of_entry program 
 -- The result is a machine at its opening with the start of the entry, or the fault.
 abbrev pub IsNew : List Class → Limits → Entry → Result Machine MachineFault → Type 0
 IsNew program limits e result =
-    MatchResult result (λ m. (start : Start) × (start_of_entry program limits e ≡ Ok start) × (m ≡ opened program limits start)) (IsNotMade program limits e)
+    MatchResult result (λ m. (start : Start) × (start_of_entry program limits e ≡ Ok start) × (m ≡ opened_machine program limits start)) (IsNotMade program limits e)

@@ -5,7 +5,7 @@ ghost use Rattle.jvms_machine.specs.Places.{places_of};
 ghost use Rattle.jvms_machine.specs.Start.{argument_value, entry_arguments};
 ghost use Rattle.jvms_machine.specs.Opening.{opening_heap, opening_initialisation, opening_static};
 ghost use Rattle.jvms_machine.specs.State.{new_thread, static_fields};
-ghost use Rattle.machine.specs.Started.{with_arguments, opened};
+ghost use Rattle.machine.specs.Started.{with_arguments, opened_machine};
 
 use heap::{Heap, Statics};
 use jvms_machine::machine::{Argument, Entry, Limits};
@@ -131,7 +131,8 @@ pub(crate) fn open<'p>(
     method: MethodNumber,
     entry: &Entry,
 ) -> Result<Parts<'p>, AllocError>
-    ensures { IfOk result (λ m. m ≡ opened program.now limits (with_arguments entry.now method)) }
+    ensures { IfOk result (λ m.
+        m ≡ opened_machine program.now limits (with_arguments entry.now method)) }
 {
     let (heap, statics) = memory(alloc, program)?;
     let lists = opening_lists(alloc, program, entry)?;

@@ -9,9 +9,9 @@ use Rattle.jvms_program.specs.BuiltIn.{is_built_in}
 use Rattle.jvms_program.specs.Program.{key_of}
 
 -- Returns an optional item as a list.
-abbrev pub listed : Option Item → List Item
-listed None = []
-listed (Some i) = i ∷ []
+abbrev pub item_list : Option Item → List Item
+item_list None = []
+item_list (Some i) = i ∷ []
 
 abbrev pub is_built_in_number : List Class → ℕ → Bool
 is_built_in_number program class = unwrap_or (option_map (λ c. is_built_in c.name) (slice_get program class)) false

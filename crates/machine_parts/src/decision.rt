@@ -3,7 +3,7 @@
 ghost use Rattle.std.specs.Prelude.{◌≡◌, ◌+◌, ◌<◌, ◌^◌, Some};
 ghost use Rattle.jvms_machine.specs.Activations.{has_depth};
 ghost use Rattle.jvms_machine.specs.Decisions.{bad, never_seen, outcome_of};
-ghost use Rattle.jvms_machine.specs.Fields.{reaches, read_decision, taking};
+ghost use Rattle.jvms_machine.specs.Fields.{reaches, read_decision, next_action};
 ghost use Rattle.machine_parts.specs.Decided.{decision_value, effect_value};
 
 use frames::Frame;
@@ -90,9 +90,9 @@ pub fn read_decision<'p>(
 
 /// Returns the action that removes `takes` operands and moves on to the next instruction.
 #[inline(always)]
-pub fn taking(takes: u16, frame: &Frame) -> FrameAction
+pub fn next_action(takes: u16, frame: &Frame) -> FrameAction
     requires { frame.now.activation.place + 1 < 2 ^ 64 }
-    ensures { result ≡ taking takes frame.now.activation }
+    ensures { result ≡ next_action takes frame.now.activation }
 {
     FrameAction::Jump {
         takes,

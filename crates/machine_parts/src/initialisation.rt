@@ -2,7 +2,7 @@
 
 ghost use Rattle.std.specs.Prelude.{◌≡◌, IsTrue, slice_get};
 ghost use Rattle.jvms_machine.specs.Decisions.{TurnDecision};
-ghost use Rattle.jvms_machine.specs.Initialisation.{begin_decision, asking};
+ghost use Rattle.jvms_machine.specs.Initialisation.{begin_decision, class_use_decision};
 ghost use Rattle.jvms_machine.specs.State.{Thread as SeenThread};
 ghost use Rattle.machine_parts.specs.Before.{first_or};
 ghost use Rattle.machine_parts.specs.Decided.{decision_value};
@@ -24,12 +24,12 @@ impl<'p> Parts<'p> {
         self.initialisations.as_slice().get(class).copied()
     }
 
-    /// Fast path of `asking`: reports that a turn which requires the initialisation of a class continues.
+    /// Fast path of `class_use_decision`: reports that a turn which requires the initialisation of a class continues.
     #[inline(always)]
     pub fn is_initialised_for(&self, t: ThreadId, class: ClassNumber) -> bool
         ensures { (thread : SeenThread) (continued : TurnDecision) → IsTrue result
-            → asking self.now.program self.now.limits self.now.state t thread class continued
-            ≡ continued }
+            → class_use_decision self.now.program self.now.limits self.now.state t thread
+            class continued ≡ continued }
     {
         match self.initialisation(class) {
             Some(Initialisation::Done) => true,
@@ -59,9 +59,15 @@ impl<'p> Parts<'p> {
 
     /// Decides a turn that requires the initialisation of a class. Returns `None` if the turn continues, else the
     /// decision instead of it.
-    pub fn asking(&self, t: ThreadId, thread: &Thread, class: ClassNumber) -> Option<Decided<'p>>
+    pub fn class_use_decision(
+        &self,
+        t: ThreadId,
+        thread: &Thread,
+        class: ClassNumber,
+    ) -> Option<Decided<'p>>
         ensures { (continued : TurnDecision) → first_or continued result
-            ≡ asking self.now.program self.now.limits self.now.state t thread.now class continued }
+            ≡ class_use_decision self.now.program self.now.limits self.now.state t thread.now class
+            continued }
     {
         match self.initialisation(class) {
             None => Some(never_seen()),

@@ -17,8 +17,8 @@ mod stored;
 mod waiting;
 
 pub use decision::{
-    ActionText, Decided, Reached, bad, has_depth, never_seen, outcome, reaches, read_decision,
-    taking,
+    ActionText, Decided, Reached, bad, has_depth, never_seen, next_action, outcome, reaches,
+    read_decision,
 };
 pub use kinds::{kind_of_type, type_size};
 pub use locks::{acquire_item, release_item};

@@ -3,11 +3,11 @@
 ghost use Rattle.std.specs.Prelude.{◌≡◌, [], IsOk, IfOk, OnOk, OnErr};
 ghost use Rattle.jvms_machine.specs.declared.action.Effect.TheVariants as effects;
 ghost use Rattle.jvms_machine.specs.declared.action.Lock.TheVariants as locks;
-ghost use Rattle.jvms_machine.specs.Actions.{acquire_items, affected, effect_items, lock_items, release_items, unlock_items, with_lock, with_unlock};
+ghost use Rattle.jvms_machine.specs.Actions.{acquire_items, after_effect, effect_items, lock_items, release_items, unlock_items, with_lock, with_unlock};
 ghost use Rattle.jvms_machine.specs.Turn.{CanBeEntered, CanBeLocked};
 ghost use Rattle.jvms_machine.specs.Heap.{class_name_at};
 ghost use Rattle.machine_parts.specs.Machine.{with_state};
-ghost use Rattle.machine_parts.specs.Marks.{listed};
+ghost use Rattle.machine_parts.specs.Marks.{item_list};
 ghost use Rattle.trace.specs.Recording.{with_items};
 
 use crate::marks::push_listed;
@@ -23,7 +23,7 @@ use trace::Recording;
 
 /// Returns the item of entering a monitor. Only the outermost entry has one.
 pub fn acquire_item(thread: ThreadId, monitor: MonitorUse) -> Option<Item>
-    ensures { listed result ≡ acquire_items thread monitor }
+    ensures { item_list result ≡ acquire_items thread monitor }
 {
     if !monitor.outermost {
         return None;
@@ -34,7 +34,7 @@ pub fn acquire_item(thread: ThreadId, monitor: MonitorUse) -> Option<Item>
 
 /// Returns the item of leaving a monitor. Only the exit that frees the monitor has one.
 pub fn release_item(thread: ThreadId, monitor: MonitorUse) -> Option<Item>
-    ensures { listed result ≡ release_items thread monitor }
+    ensures { item_list result ≡ release_items thread monitor }
 {
     if !monitor.outermost {
         return None;
@@ -45,7 +45,7 @@ pub fn release_item(thread: ThreadId, monitor: MonitorUse) -> Option<Item>
 
 /// Returns the item of what a call locks.
 pub(crate) fn lock_item(thread: ThreadId, lock: Lock) -> Option<Item>
-    ensures { listed result ≡ lock_items thread lock }
+    ensures { item_list result ≡ lock_items thread lock }
 {
     match lock {
         Lock::Nothing => None,
@@ -56,7 +56,7 @@ pub(crate) fn lock_item(thread: ThreadId, lock: Lock) -> Option<Item>
 
 /// Returns the item of what a call unlocks.
 pub(crate) fn unlock_item(thread: ThreadId, unlock: Option<MonitorUse>) -> Option<Item>
-    ensures { listed result ≡ unlock_items thread unlock }
+    ensures { item_list result ≡ unlock_items thread unlock }
 {
     release_item(thread, unlock?)
 }
@@ -128,7 +128,7 @@ impl Parts<'_> {
     ) -> Result<(), AllocError>
         requires { CanBeEntered self.old.state monitor }
         ensures state { OnOk result (self.new ≡ with_state self.old
-            (affected self.old.program self.old.state t [] (effects.Locks monitor))) }
+            (after_effect self.old.program self.old.state t [] (effects.Locks monitor))) }
         ensures items { OnOk result (trace.new
             ≡ with_items trace.old (effect_items self.old.program t (effects.Locks monitor))) }
         ensures kept { OnErr result (self.new ≡ self.old) }
@@ -152,7 +152,7 @@ impl Parts<'_> {
         trace: &mut Recording,
     ) -> Result<(), AllocError>
         ensures state { OnOk result (self.new ≡ with_state self.old
-            (affected self.old.program self.old.state t [] (effects.Unlocks monitor))) }
+            (after_effect self.old.program self.old.state t [] (effects.Unlocks monitor))) }
         ensures items { OnOk result (trace.new
             ≡ with_items trace.old (effect_items self.old.program t (effects.Unlocks monitor))) }
         ensures kept { OnErr result (self.new ≡ self.old) }

@@ -2,7 +2,7 @@
 
 ghost use Rattle.std.specs.Prelude.{◌≡◌, ◌++◌, [], None, IsOk, IfOk, OnOk, OnErr};
 ghost use Rattle.jvms_machine.specs.Actions.{enter_items, exit_items, lock_items, unlock_items};
-ghost use Rattle.machine_parts.specs.Marks.{listed, marked_key};
+ghost use Rattle.machine_parts.specs.Marks.{item_list, marked_key};
 ghost use Rattle.trace.specs.Recording.{with_items};
 
 use crate::locks::{lock_item, unlock_item};
@@ -19,9 +19,9 @@ use trace::Recording;
 #[inline(always)]
 #[tactic(auto, using(trace::proofs::Recorded::recorded_none))]
 pub fn push_listed(trace: &mut Recording, item: Option<Item>) -> Result<(), AllocError>
-    ensures ok { OnOk result (trace.new ≡ with_items trace.old (listed item)) }
+    ensures ok { OnOk result (trace.new ≡ with_items trace.old (item_list item)) }
     ensures err { OnErr result (trace.new ≡ trace.old) }
-    ensures none { listed item ≡ [] → IsOk result }
+    ensures none { item_list item ≡ [] → IsOk result }
 {
     match item {
         None => Ok(()),
@@ -37,9 +37,10 @@ fn push_both(
     first: Option<Item>,
     second: Option<Item>,
 ) -> Result<(), AllocError>
-    ensures ok { OnOk result (trace.new ≡ with_items trace.old (listed first ++ listed second)) }
+    ensures ok { OnOk result
+        (trace.new ≡ with_items trace.old (item_list first ++ item_list second)) }
     ensures err { OnErr result (trace.new ≡ trace.old) }
-    ensures none { listed first ++ listed second ≡ [] → IsOk result }
+    ensures none { item_list first ++ item_list second ≡ [] → IsOk result }
 {
     let before = trace.len();
     push_listed(trace, first)?;
@@ -65,7 +66,8 @@ impl Parts<'_> {
     /// Returns the mark of a method's entry.
     #[inline(always)]
     pub fn enter_item(&self, t: ThreadId, method: MethodNumber) -> Result<Option<Item>, AllocError>
-        ensures item { IfOk result (λ item. listed item ≡ enter_items self.now.program t method) }
+        ensures item { IfOk result (λ item.
+            item_list item ≡ enter_items self.now.program t method) }
     {
         let Some(method) = self.mark_key(method)? else {
             return Ok(None);
@@ -76,7 +78,7 @@ impl Parts<'_> {
     /// Returns the mark of a method's exit.
     #[inline(always)]
     pub fn exit_item(&self, t: ThreadId, method: MethodNumber) -> Result<Option<Item>, AllocError>
-        ensures item { IfOk result (λ item. listed item ≡ exit_items self.now.program t method) }
+        ensures item { IfOk result (λ item. item_list item ≡ exit_items self.now.program t method) }
         ensures none { exit_items self.now.program t method ≡ [] → IsOk result }
     {
         let Some(method) = self.mark_key(method)? else {

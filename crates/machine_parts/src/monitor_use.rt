@@ -6,7 +6,7 @@ ghost use Rattle.jvms_machine.specs.declared.action.Lock.TheVariants as lock;
 ghost use Rattle.jvms_machine.specs.declared.action.MonitorUse.{MonitorUse as Used};
 ghost use Rattle.jvms_machine.specs.Decisions.{TurnDecision};
 ghost use Rattle.jvms_machine.specs.Heap.{class_name_at};
-ghost use Rattle.jvms_machine.specs.Monitors.{entering, entering_held, leaving, class_locking, locking, object_locking, unlocking, fails_to_unlock as fails};
+ghost use Rattle.jvms_machine.specs.Monitors.{monitor_entry, monitor_entry_by_hold, monitor_exit, class_locking, call_locking, object_locking, frame_unlocking, fails_to_unlock as fails};
 ghost use Rattle.jvms_machine.specs.State.{class_reference};
 ghost use Rattle.machine_parts.specs.Before.{turn_by_entry, turn_by_exit, turn_by_lock};
 ghost use Rattle.machine_parts.specs.Decided.{decision_value};
@@ -49,7 +49,7 @@ pub enum Unlocking {
 impl<'p> Parts<'p> {
     /// Decides the entry of a held monitor. Its owner enters it again, and any other thread blocks. Throws
     /// `OutOfMemoryError` if the entry count is at its maximum.
-    fn entering_held(
+    fn monitor_entry_by_hold(
         &self,
         t: ThreadId,
         thread: &Thread,
@@ -57,7 +57,8 @@ impl<'p> Parts<'p> {
         hold: Hold,
     ) -> Entering<'p>
         ensures { (make : Used → TurnDecision) → turn_by_entry make result
-            ≡ entering_held self.now.limits self.now.state t thread.now reference (Some hold) make }
+            ≡ monitor_entry_by_hold self.now.limits self.now.state t thread.now reference
+            (Some hold) make }
     {
         if hold.owner != t {
             let on = BlockedOn::Monitor {
@@ -76,22 +77,22 @@ impl<'p> Parts<'p> {
     }
 
     /// Decides the entry of an object's monitor.
-    pub fn entering(&self, t: ThreadId, thread: &Thread, reference: u32) -> Entering<'p>
+    pub fn monitor_entry(&self, t: ThreadId, thread: &Thread, reference: u32) -> Entering<'p>
         ensures { (make : Used → TurnDecision) → turn_by_entry make result
-            ≡ entering self.now.limits self.now.state t thread.now reference make }
+            ≡ monitor_entry self.now.limits self.now.state t thread.now reference make }
     {
         match self.monitor(reference) {
             None => Entering::Enters(MonitorUse {
                 reference,
                 outermost: true,
             }),
-            Some(hold) => self.entering_held(t, thread, reference, hold),
+            Some(hold) => self.monitor_entry_by_hold(t, thread, reference, hold),
         }
     }
 
     /// Returns how a thread leaves a monitor, or `None` if it isn't the owner.
-    pub fn leaving(&self, t: ThreadId, reference: u32) -> Option<MonitorUse>
-        ensures { result ≡ leaving self.now.state t reference }
+    pub fn monitor_exit(&self, t: ThreadId, reference: u32) -> Option<MonitorUse>
+        ensures { result ≡ monitor_exit self.now.state t reference }
     {
         let hold = self.monitor(reference)?;
         if hold.owner != t {
@@ -108,7 +109,7 @@ impl<'p> Parts<'p> {
         ensures { (make : Locked → TurnDecision) → turn_by_lock make result
             ≡ object_locking self.now.limits self.now.state t thread.now (Some reference) make }
     {
-        match self.entering(t, thread, reference) {
+        match self.monitor_entry(t, thread, reference) {
             Entering::Enters(monitor) => Locking::Locks(Lock::Monitor(monitor)),
             Entering::Stops(decision) => Locking::Stops(decision),
         }
@@ -150,7 +151,7 @@ impl<'p> Parts<'p> {
     }
 
     /// Decides what a call of a method locks: the receiver or the class object of a synchronized method, else nothing.
-    pub fn locking(
+    pub fn call_locking(
         &self,
         t: ThreadId,
         thread: &Thread,
@@ -159,7 +160,7 @@ impl<'p> Parts<'p> {
         receiver: Option<u32>,
     ) -> Locking<'p>
         ensures { (make : Locked → TurnDecision)
-            → turn_by_lock make result ≡ locking self.now.program self.now.limits
+            → turn_by_lock make result ≡ call_locking self.now.program self.now.limits
             self.now.state t thread.now n method.now receiver make }
     {
         if !method.flags.is_synchronized {
@@ -175,14 +176,14 @@ impl<'p> Parts<'p> {
     }
 
     /// Decides how a call leaves the monitor of its frame, if it has one.
-    pub fn unlocking(&self, t: ThreadId, frame: &Frame) -> Unlocking
+    pub fn frame_unlocking(&self, t: ThreadId, frame: &Frame) -> Unlocking
         ensures { (fails : TurnDecision) (make : Option Used → TurnDecision)
             → turn_by_exit fails make result
-            ≡ unlocking self.now.state t frame.now.monitor fails make }
+            ≡ frame_unlocking self.now.state t frame.now.monitor fails make }
     {
         match frame.monitor() {
             None => Unlocking::Leaves(None),
-            Some(reference) => match self.leaving(t, reference) {
+            Some(reference) => match self.monitor_exit(t, reference) {
                 None => Unlocking::Fails,
                 Some(monitor) => Unlocking::Leaves(Some(monitor)),
             },

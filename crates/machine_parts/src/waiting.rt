@@ -3,7 +3,7 @@
 ghost use Rattle.std.specs.Prelude.{◌≡◌, ◌∷◌, [], OnOk, OnErr};
 ghost use Rattle.jvms_machine.specs.declared.action.Effect.TheVariants as effects;
 ghost use Rattle.jvms_machine.specs.declared.trace.Item.TheVariants as item;
-ghost use Rattle.jvms_machine.specs.Actions.{affected, with_retaken, with_waiter};
+ghost use Rattle.jvms_machine.specs.Actions.{after_effect, with_retaken, with_waiter};
 ghost use Rattle.machine_parts.specs.Machine.{with_state};
 ghost use Rattle.trace.specs.Recording.{with_items};
 
@@ -77,7 +77,7 @@ impl Parts<'_> {
     /// Notifies the thread that has waited longest for an object, or all that wait for it. Takes no memory.
     pub fn notify(&mut self, reference: u32, all: bool)
         ensures { self.new ≡ with_state self.old
-            (affected self.old.program self.old.state 0 [] (effects.Notifies reference all)) }
+            (after_effect self.old.program self.old.state 0 [] (effects.Notifies reference all)) }
     {
         self.waiters.notify(reference, all);
     }

@@ -28,14 +28,14 @@ abbrev pub is_joined : List ConflictingPair → Row → Bool
 is_joined edges row = list_any (λ (p : ConflictingPair). p.earlier == row.event || p.later == row.event) edges
 
 -- Returns the rows that pass a test if there are more rows than a picture shows, else all.
-abbrev pub thinned : (Row → Bool) → List Row → List Row
-thinned test rows = cond (nat_lt most_rows (length rows)) (filter test rows) rows
+abbrev pub thinned_rows : (Row → Bool) → List Row → List Row
+thinned_rows test rows = cond (nat_lt most_rows (length rows)) (filter test rows) rows
 
 -- Returns the rows of a cycle if there are too many rows, and those that its edges join if these are still too many.
 -- Without a cycle it returns all rows.
 abbrev pub rows_in : List ℕ → List ConflictingPair → List Row → List Row
 rows_in cycle edges rows =
-    cond (nat_lt 0 (length cycle)) (thinned (is_joined edges) (thinned (is_chosen cycle) rows)) rows
+    cond (nat_lt 0 (length cycle)) (thinned_rows (is_joined edges) (thinned_rows (is_chosen cycle) rows)) rows
 
 abbrev pub chosen_rows : List ℕ → List ConflictingPair → List Row → List Row
 chosen_rows cycle edges rows = take most_rows (rows_in cycle edges rows)

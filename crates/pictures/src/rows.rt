@@ -1,7 +1,7 @@
 //! The rows of a picture, one for each event.
 
 ghost use Rattle.std.specs.Prelude.{◌≡◌, ◌+◌, IfOk};
-ghost use Rattle.pictures.specs.Rows.{chosen_rows, is_chosen, is_joined, rows_from, thinned};
+ghost use Rattle.pictures.specs.Rows.{chosen_rows, is_chosen, is_joined, rows_from, thinned_rows};
 
 use jvms_machine::trace::Item;
 use report::is_event;
@@ -75,7 +75,7 @@ fn is_joined(edges: &[ConflictingPair], row: &Row) -> bool
 
 /// Returns the rows of a cycle's transactions, or all rows if they are few.
 fn thinned_by_cycle(alloc: Global, rows: Vec<Row>, cycle: &[u64]) -> Result<Vec<Row>, AllocError>
-    ensures { IfOk result (λ chosen. chosen.items ≡ thinned (is_chosen cycle.now) rows.items) }
+    ensures { IfOk result (λ chosen. chosen.items ≡ thinned_rows (is_chosen cycle.now) rows.items) }
 {
     let mut chosen = rows;
     if chosen.len() > MOST_ROWS {
@@ -94,7 +94,7 @@ fn thinned_by_edges(
     rows: Vec<Row>,
     edges: &[ConflictingPair],
 ) -> Result<Vec<Row>, AllocError>
-    ensures { IfOk result (λ chosen. chosen.items ≡ thinned (is_joined edges.now) rows.items) }
+    ensures { IfOk result (λ chosen. chosen.items ≡ thinned_rows (is_joined edges.now) rows.items) }
 {
     let mut chosen = rows;
     if chosen.len() > MOST_ROWS {

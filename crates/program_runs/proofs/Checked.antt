@@ -2,7 +2,7 @@
 use Rattle.std.proofs.Common.{◌≡◌, ℕ, ◌+◌, ◌-◌, ◌<◌, ◌≤◌, List, [], ◌++◌, length, ap, sym, ◌∙◌, subst, arith, append_assoc, append-nil}
 use Rattle.std.proofs.lemmas.List.{length-append}
 use Rattle.jvms_machine.specs.declared.trace.Item.{Item}
-use Rattle.jvms_machine.specs.Run.{joined, run_from}
+use Rattle.jvms_machine.specs.Run.{joined_results, run_from}
 use Rattle.jvms_machine.proofs.RunLaws.{run_append}
 use Rattle.machine.specs.Machine.{Machine, with_state}
 use Rattle.machine.specs.Runs.{run_of}
@@ -33,7 +33,7 @@ pub record AreTaken (before : Machine) (first : Chooser) (fresh : Fed) (most tak
 
 -- The run of the first choices, followed by that of the others.
 run_both : (a b : ℕ) (first : Chooser) (before : Machine) → length (choices_from a first before) ≡ a
-    → run_of before (choices_from (a + b) first before) ≡ joined (run_of before (choices_from a first before)) (run_of (machine_after_choices a first before) (rest_of a b first before))
+    → run_of before (choices_from (a + b) first before) ≡ joined_results (run_of before (choices_from a first before)) (run_of (machine_after_choices a first before) (rest_of a b first before))
 run_both a b first before full =
     ap (λ l. run_of before l) (continues a b first before full).0
     ∙ run_append before.program before.limits before.start before.state (choices_from a first before) (rest_of a b first before)

@@ -11,7 +11,7 @@ use Rattle.jvms_machine.specs.Opening.{StartFault, no_limits, start_of_entry, st
 use Rattle.jvms_machine.specs.Start.{Start, start_of}
 use Rattle.jvms_machine.proofs.StartLaws.{entry_is_start}
 use Rattle.machine.specs.Machine.{Machine}
-use Rattle.machine.specs.Started.{opened}
+use Rattle.machine.specs.Started.{opened_machine}
 use Rattle.machine.specs.Runs.{run_of}
 use Rattle.schedule.specs.Choosers.{Chooser}
 use Rattle.runs.specs.Choices.{choices_from}
@@ -33,7 +33,7 @@ start_is limits None start is = absurd (cc)
 start_is limits (Some s) start is = within_is (are_limits limits) s start is
 
 -- A machine that was made is before its first turn.
-pub made_is_opened : (limits : Limits) (program : List Class) (entry : Entry) (start : Start) → IsProgram program → start_of_entry program limits entry ≡ Ok start → IsOpened (opened program limits start)
+pub made_is_opened : (limits : Limits) (program : List Class) (entry : Entry) (start : Start) → IsProgram program → start_of_entry program limits entry ≡ Ok start → IsOpened (opened_machine program limits start)
 made_is_opened limits program entry start is made_is =
     let starts = start_is limits (start_of program entry) start made_is in
     record { classes = is; limits = starts.1; start = entry_is_start program entry start starts.0; state = refl }
@@ -47,15 +47,15 @@ opened_may_be_fed lines most chooser m is few =
 
 -- Returns what a run shows from the start of its entry.
 abbrev shown_from : ℕ → Chooser → List Class → Limits → Result Start StartFault → Result Shown StartFault
-shown_from most chooser program limits start = start >>= λ start. Ok (view_of_run most chooser (opened program limits start))
+shown_from most chooser program limits start = start >>= λ start. Ok (view_of_run most chooser (opened_machine program limits start))
 
 fed_from : (lines : Specification) (most : ℕ) (chooser : Chooser) (limits : Limits) (program : List Class) (entry : Entry) (shown : Shown) (r : Result Start StartFault)
     → IsProgram program → most ≤ 100000000 → start_of_entry program limits entry ≡ r → shown_from most chooser program limits r ≡ Ok shown → MayBeFed lines shown.items
 fed_from lines most chooser limits program entry shown (Err why) is few made_is said = absurd (cc)
 fed_from lines most chooser limits program entry shown (Ok start) is few made_is said =
-    let same : view_of_run most chooser (opened program limits start) ≡ shown = cc in
+    let same : view_of_run most chooser (opened_machine program limits start) ≡ shown = cc in
     subst (λ (s : Shown). MayBeFed lines s.items) same
-    (opened_may_be_fed lines most chooser (opened program limits start) (made_is_opened limits program entry start is made_is) few)
+    (opened_may_be_fed lines most chooser (opened_machine program limits start) (made_is_opened limits program entry start is made_is) few)
 
 pub shown_may_be_fed : (lines : Specification) (most : ℕ) (chooser : Chooser) (limits : Limits) (program : List Class) (entry : Entry) (shown : Shown)
     → IsProgram program → most ≤ 100000000 → view_of_program most chooser limits program entry ≡ Ok shown → MayBeFed lines shown.items

@@ -5,7 +5,7 @@ use Rattle.jvms_machine.specs.declared.trace.Item.{Item}
 use Rattle.jvms_machine.specs.Limits.{are_limits}
 use Rattle.jvms_machine.specs.Start.{IsStart}
 use Rattle.machine.specs.Machine.{Machine}
-use Rattle.machine.specs.Started.{opened}
+use Rattle.machine.specs.Started.{opened_machine}
 use Rattle.velodrome.specs.Specification.{Specification}
 use Rattle.velodrome.specs.Transactions.{trace_state_of}
 use Rattle.velodrome.specs.Verdicts.{IsVerdict}
@@ -47,4 +47,4 @@ pub record IsOpened (m : Machine) : Type 0 where
   pub classes : IsProgram m.program
   pub limits : IsTrue (are_limits m.limits)
   pub start : IsStart m.start
-  pub state : m ≡ opened m.program m.limits m.start
+  pub state : m ≡ opened_machine m.program m.limits m.start

@@ -12,7 +12,7 @@ use Rattle.jvms_machine.specs.Opening.{StartFault, start_of_entry}
 use Rattle.jvms_machine.specs.Status.{status_of}
 use Rattle.machine.specs.Machine.{Machine}
 use Rattle.machine.specs.Runs.{run_of}
-use Rattle.machine.specs.Started.{opened}
+use Rattle.machine.specs.Started.{opened_machine}
 use Rattle.schedule.specs.Choosers.{Chooser}
 use Rattle.runs.specs.declared.ending.Ending.{Ending}
 use Rattle.runs.specs.Choices.{choices_from, chooser_after_choices}
@@ -51,13 +51,13 @@ view_of_run most chooser m = view_of_choices m (choices_from most chooser m)
 unfoldable pub view_of_program : ℕ → Chooser → Limits → List Class → Entry → Result Shown StartFault
 view_of_program most chooser limits program entry = do
   start ← start_of_entry program limits entry
-  Ok (view_of_run most chooser (opened program limits start))
+  Ok (view_of_run most chooser (opened_machine program limits start))
 
 -- Returns the chooser after its choices, if a machine is made.
 unfoldable pub program_chooser_left : ℕ → Chooser → Limits → List Class → Entry → Result Chooser StartFault
 program_chooser_left most chooser limits program entry = do
   start ← start_of_entry program limits entry
-  Ok (chooser_after_choices most chooser (opened program limits start))
+  Ok (chooser_after_choices most chooser (opened_machine program limits start))
 
 -- Returns what a traced run shows.
 abbrev pub view_of_traced : TracedRun → Shown

@@ -22,7 +22,7 @@ use Rattle.jvms_program.specs.Program.{field_key_at}
 use Rattle.jvms_machine.specs.Decisions.{TurnAction, TurnDecision}
 use Rattle.jvms_machine.specs.State.{State, Thread, Frame, new_thread}
 use Rattle.jvms_machine.specs.Start.{Start}
-use Rattle.jvms_machine.specs.Actions.{affected, applied_to, stack_after_return, changed_to, initializer_called, operands_of, put_field, put_static, stack_without_operands, stack_after_action, top_handling, with_class_constants, with_exception, with_lock, with_result, with_retaken, with_unlock, with_waiter}
+use Rattle.jvms_machine.specs.Actions.{after_effect, applied_to, stack_after_return, changed_to, initializer_called, operands_of, put_field, put_static, stack_without_operands, stack_after_action, top_handling, with_class_constants, with_exception, with_lock, with_result, with_retaken, with_unlock, with_waiter}
 use Rattle.jvms_machine.specs.Marks.{calls, calls_in}
 use Rattle.jvms_machine.specs.Turn.{decide, state_after, turn}
 use Rattle.jvms_machine.proofs.ListLaws.{get_set_other, get_set_same}
@@ -131,7 +131,7 @@ started_calls [] object (suc u) = refl
 started_calls (v ∷ vs) object zero = refl
 started_calls (v ∷ vs) object (suc u) = started_calls vs object u
 
-affected_calls : (program : List Class) (s : State) (t : ℕ) (operands : List Value) (what : Effect (List ℕ)) → HaveSameCalls s.threads (affected program s t operands what).threads
+affected_calls : (program : List Class) (s : State) (t : ℕ) (operands : List Value) (what : Effect (List ℕ)) → HaveSameCalls s.threads (after_effect program s t operands what).threads
 affected_calls program s t operands effect.Nothing u = refl
 affected_calls program s t operands (effect.GetField r n) u = refl
 affected_calls program s t operands (effect.PutField r n v) u = same_calls s.threads _ (field_threads s r v (field_key_at program n)) u

@@ -9,7 +9,7 @@ use Rattle.jvms_program.specs.declared.thrown.Thrown.TheVariants as thrown
 use Rattle.jvms_machine.specs.Activations.{has_depth}
 use Rattle.jvms_machine.specs.Arrays.{element_at, element_size, fits_component, if_deep, is_reference_kind, kind_of_elements, load_from, load_operands, element_load_decision, serves, store_below, store_operands, store_to, element_store_decision}
 use Rattle.jvms_machine.specs.Decisions.{TurnDecision, bad}
-use Rattle.jvms_machine.specs.Fields.{taking}
+use Rattle.jvms_machine.specs.Fields.{next_action}
 use Rattle.jvms_machine.specs.Heap.{component_type, stored_as}
 use Rattle.jvms_machine.specs.Places.{top_value, value_size}
 use Rattle.jvms_machine.specs.State.{MethodFrame, Object, State, Thread, array, class_object, instance, text}
@@ -63,7 +63,7 @@ module _ (program : List Class) (limits : Limits) (s : State) (t : ℕ) (thread 
   stored_has k v n r class (Some old) is =
       cond_both (is_reference_kind k && not (fits_component program s class v)) _ _ P
       (λ _. array_tests.thrown_by thrown.ArrayStoreException)
-      (λ _. leaves.reached (effect.StoreElement r (unsigned_abs n) (stored_as (component_type class) v)) (taking (2 + element_size k) frame.activation) refl (λ _. refl) is)
+      (λ _. leaves.reached (effect.StoreElement r (unsigned_abs n) (stored_as (component_type class) v)) (next_action (2 + element_size k) frame.activation) refl (λ _. refl) is)
 
   store_has : (k : ArrayKind) (v : Value) (n : ℤ) (r : ℕ) (o : Object) → item.Write t (variable.Element r (unsigned_abs n)) ∷ [] ≡ accesses → P (store_to program limits s thread frame.activation k v n r o)
   store_has k v n r (array class elements) is =

@@ -6,7 +6,7 @@ use Rattle.jvms_program.specs.declared.number.MethodNumber.{MethodNumber}
 use Rattle.jvms_program.specs.declared.program.Body.{Body}
 use Rattle.jvms_program.specs.declared.program.Class.{Class}
 use Rattle.jvms_machine.specs.Actions.{effect_items}
-use Rattle.jvms_machine.specs.Activations.{applied}
+use Rattle.jvms_machine.specs.Activations.{activation_after}
 use Rattle.jvms_machine.specs.Decisions.{TurnDecision}
 use Rattle.jvms_machine.specs.Fields.{reaches}
 use Rattle.jvms_machine.specs.State.{Frame, MethodFrame, Sound, State, Thread}
@@ -35,7 +35,7 @@ pub record IsOnTop (s : State) (t : ℕ) (thread : Thread) (frame : MethodFrame)
 
 -- A frame action that continues at the next instruction.
 abbrev pub IsNext : MethodFrame → FrameAction → Type 0
-IsNext frame act = (applied act frame.activation).place ≡ frame.activation.place + 1
+IsNext frame act = (activation_after act frame.activation).place ≡ frame.activation.place + 1
 
 -- A property of tests, of calls, of waits, and of instructions that continue, with these joins and accesses.
 pub record IsOfCalls (program : List Class) (limits : Limits) (s : State) (t : ℕ) (thread : Thread) (frame : MethodFrame) (joins accesses : List Item) (P : TurnDecision → Type 0) : Type 0 where

@@ -15,8 +15,8 @@ use Rattle.jvms_machine.specs.Calls.{called_decision, enter_decision, with_metho
 use Rattle.jvms_machine.specs.Decisions.{TurnDecision}
 use Rattle.jvms_machine.specs.Exceptions.{has_room_for, throws}
 use Rattle.jvms_machine.specs.Heap.{class_name_at, next_reference}
-use Rattle.jvms_machine.specs.Initialisation.{asking, requiring_class_in, begin_decision, constants_of, new_texts}
-use Rattle.jvms_machine.specs.Monitors.{class_locking, entering, entering_held, locking, object_locking}
+use Rattle.jvms_machine.specs.Initialisation.{class_use_decision, requiring_class_in, begin_decision, constants_of, new_texts}
+use Rattle.jvms_machine.specs.Monitors.{class_locking, monitor_entry, monitor_entry_by_hold, call_locking, object_locking}
 use Rattle.jvms_machine.specs.State.{MethodFrame, Object, State, Thread, class_reference, monitor_at, object_at}
 use Rattle.jvms_machine.specs.declared.action.Action.TheVariants as action
 use Rattle.jvms_machine.specs.declared.action.Decision.TheVariants as decision
@@ -50,40 +50,40 @@ module _ (program : List Class) (limits : Limits) (s : State) (t : ℕ) (thread 
       (λ _. tests.thrown_by thrown.OutOfMemoryError)
       (λ _. cond_both (nat_le limits.frames (length thread.frames)) _ _ P (λ _. tests.thrown_by thrown.StackOverflowError) (λ _. tests.begun_by class))
 
-  asking_at_has : (class : ℕ) (o : Option Initialisation) (continued : TurnDecision) → P continued → P (requiring_class_in program limits s t thread class o continued)
-  asking_at_has class None continued has = tests.unmade (outcome.Bad cause.OutOfProfile)
-  asking_at_has class (Some initialisation.NotBegun) continued has = begin_has class (slice_get program class)
-  asking_at_has class (Some (initialisation.InProgress u)) continued has =
+  class_use_at_has : (class : ℕ) (o : Option Initialisation) (continued : TurnDecision) → P continued → P (requiring_class_in program limits s t thread class o continued)
+  class_use_at_has class None continued has = tests.unmade (outcome.Bad cause.OutOfProfile)
+  class_use_at_has class (Some initialisation.NotBegun) continued has = begin_has class (slice_get program class)
+  class_use_at_has class (Some (initialisation.InProgress u)) continued has =
       cond_both (u == t) continued _ P (λ _. has) (λ _. tests.unmade (outcome.Blocked (blocked.Initialisation class u)))
-  asking_at_has class (Some initialisation.Done) continued has = has
-  asking_at_has class (Some initialisation.Erroneous) continued has = tests.thrown_by thrown.NoClassDefFoundError
+  class_use_at_has class (Some initialisation.Done) continued has = has
+  class_use_at_has class (Some initialisation.Erroneous) continued has = tests.thrown_by thrown.NoClassDefFoundError
 
-  pub asking_has : (class : ℕ) (continued : TurnDecision) → P continued → P (asking program limits s t thread class continued)
-  asking_has class continued has = asking_at_has class (slice_get s.initialisations class) continued has
+  pub class_use_has : (class : ℕ) (continued : TurnDecision) → P continued → P (class_use_decision program limits s t thread class continued)
+  class_use_has class continued has = class_use_at_has class (slice_get s.initialisations class) continued has
 
   -- ---- Monitors
 
-  entering_held_has : (r : ℕ) (o : Option Hold) (make : MonitorUse → TurnDecision) → ((monitor : MonitorUse) → P (make monitor)) → P (entering_held limits s t thread r o make)
-  entering_held_has r None make has = has (record { reference = r; outermost = true })
-  entering_held_has r (Some h) make has =
+  monitor_entry_held_has : (r : ℕ) (o : Option Hold) (make : MonitorUse → TurnDecision) → ((monitor : MonitorUse) → P (make monitor)) → P (monitor_entry_by_hold limits s t thread r o make)
+  monitor_entry_held_has r None make has = has (record { reference = r; outermost = true })
+  monitor_entry_held_has r (Some h) make has =
       cond_both (not (h.owner == t)) _ _ P
       (λ _. tests.unmade (outcome.Blocked (blocked.Monitor r h.owner)))
       (λ _. cond_both (h.count == 4294967295) _ _ P (λ _. tests.thrown_by thrown.OutOfMemoryError) (λ _. has (record { reference = r; outermost = false })))
 
-  pub entering_has : (r : ℕ) (make : MonitorUse → TurnDecision) → ((monitor : MonitorUse) → P (make monitor)) → P (entering limits s t thread r make)
-  entering_has r make has = entering_held_has r (monitor_at s.monitors r) make has
+  pub monitor_entry_has : (r : ℕ) (make : MonitorUse → TurnDecision) → ((monitor : MonitorUse) → P (make monitor)) → P (monitor_entry limits s t thread r make)
+  monitor_entry_has r make has = monitor_entry_held_has r (monitor_at s.monitors r) make has
 
   object_locking_has : (receiver : Option ℕ) (make : Lock → TurnDecision) → ((locked : Lock) → P (make locked)) → P (object_locking limits s t thread receiver make)
   object_locking_has None make has = tests.unmade (outcome.Bad cause.OutOfProfile)
-  object_locking_has (Some r) make has = entering_has r (λ monitor. make (lock.Monitor monitor)) (λ monitor. has (lock.Monitor monitor))
+  object_locking_has (Some r) make has = monitor_entry_has r (λ monitor. make (lock.Monitor monitor)) (λ monitor. has (lock.Monitor monitor))
 
   class_locking_has : (class : ℕ) (o : Option ℕ) (make : Lock → TurnDecision) → ((locked : Lock) → P (make locked)) → P (class_locking limits s t thread class o make)
-  class_locking_has class (Some r) make has = entering_has r (λ monitor. make (lock.Monitor monitor)) (λ monitor. has (lock.Monitor monitor))
+  class_locking_has class (Some r) make has = monitor_entry_has r (λ monitor. make (lock.Monitor monitor)) (λ monitor. has (lock.Monitor monitor))
   class_locking_has class None make has =
       cond_both (has_room_for 1 limits s) _ _ P (λ _. has (lock.NewClass class (next_reference s.heap))) (λ _. tests.thrown_by thrown.OutOfMemoryError)
 
-  locking_has : (n : MethodNumber) (m : Method) (receiver : Option ℕ) (make : Lock → TurnDecision) → ((locked : Lock) → P (make locked)) → P (locking program limits s t thread n m receiver make)
-  locking_has n m receiver make has =
+  call_locking_has : (n : MethodNumber) (m : Method) (receiver : Option ℕ) (make : Lock → TurnDecision) → ((locked : Lock) → P (make locked)) → P (call_locking program limits s t thread n m receiver make)
+  call_locking_has n m receiver make has =
       cond_both (not m.flags.is_synchronized) _ _ P
       (λ _. has lock.Nothing)
       (λ _. cond_both m.flags.is_static _ _ P
@@ -100,7 +100,7 @@ module _ (program : List Class) (limits : Limits) (s : State) (t : ℕ) (thread 
   enter_has n m receiver arguments body make has =
       cond_both (nat_le limits.frames (length thread.frames)) _ _ P
       (λ _. tests.thrown_by thrown.StackOverflowError)
-      (λ _. cond_both (nat_lt body.max_locals arguments) _ _ P (λ _. tests.unmade (outcome.Bad cause.Local)) (λ _. locking_has n m receiver make has))
+      (λ _. cond_both (nat_lt body.max_locals arguments) _ _ P (λ _. tests.unmade (outcome.Bad cause.Local)) (λ _. call_locking_has n m receiver make has))
 
   pub called_has : (n : MethodNumber) (m : Method) (receiver : Option ℕ) (arguments : ℕ) (native : TurnDecision) (make : Body → Lock → TurnDecision) → (m.flags.is_native ≡ true → P native) → ((body : Body) (locked : Lock) → P (make body locked)) → P (called_decision program limits s t thread n m receiver arguments native make)
   called_has n m receiver arguments native make native_has has =

@@ -19,7 +19,7 @@ use Rattle.jvms_program.specs.declared.thrown.Thrown.TheVariants as thrown
 use Rattle.jvms_machine.specs.Actions.{effect_items, event, field_variable}
 use Rattle.jvms_machine.specs.Activations.{has_depth}
 use Rattle.jvms_machine.specs.Decisions.{TurnDecision, never_seen}
-use Rattle.jvms_machine.specs.Fields.{are_of_field, field_decision, field_gives, field_takes, fields_of, found_field_decision, instance_decision, numbered_field_decision, object_decision, object_of_use, read_decision, receiver_decision, resolved_field_decision, static_decision, taking, write_decision}
+use Rattle.jvms_machine.specs.Fields.{are_of_field, field_decision, field_gives, field_takes, fields_of, found_field_decision, instance_decision, numbered_field_decision, object_decision, object_of_use, read_decision, receiver_decision, resolved_field_decision, static_decision, next_action, write_decision}
 use Rattle.jvms_machine.specs.Heap.{stored_as, value_of}
 use Rattle.jvms_machine.specs.Places.{kind_of_type, top_value, value_size}
 use Rattle.jvms_machine.specs.State.{MethodFrame, Object, State, Thread, class_of, object_at}
@@ -36,7 +36,7 @@ use Rattle.jvms_machine.specs.declared.trace.Variable.TheVariants as variable
 use Rattle.jvms_machine.specs.declared.value.Value.{Value}
 use Rattle.jvms_machine.specs.declared.value.Value.TheVariants as value
 use Rattle.turn_item_laws.proofs.CallLeaves.{IsOfCalls}
-use Rattle.turn_item_laws.proofs.DecisionWalks.{IsOfTests, asking_has}
+use Rattle.turn_item_laws.proofs.DecisionWalks.{IsOfTests, class_use_has}
 use Rattle.turn_item_laws.proofs.ResolvedFields.{numbered_key}
 use Rattle.turn_item_laws.specs.Accesses.{field_access, is_access, of_object, of_program, resolved_access}
 use Rattle.turn_item_laws.specs.Joins.{is_join}
@@ -78,7 +78,7 @@ module _ (program : List Class) (limits : Limits) (s : State) (t : ℕ) (thread 
   writes : (what : Value → Effect (List ℕ)) (takes : ℕ) (type : FieldType) (o : Option Value) → ((v : Value) → filter is_join (effect_items program t (what v)) ≡ []) → ((v : Value) → filter is_access (effect_items program t (what v)) ≡ accesses) → P (write_decision frame what takes type o)
   writes what takes type None quiet is = field_unmade
   writes what takes type (Some v) quiet is =
-      leaves.reached (what (stored_as type v)) (taking takes frame.activation) refl (λ _. quiet (stored_as type v)) (is (stored_as type v))
+      leaves.reached (what (stored_as type v)) (next_action takes frame.activation) refl (λ _. quiet (stored_as type v)) (is (stored_as type v))
 
   -- ---- The field of a number
 
@@ -129,7 +129,7 @@ module _ (program : List Class) (limits : Limits) (s : State) (t : ℕ) (thread 
     keyed_has : (how : FieldUse) (type : FieldType) → field_access t how type key frame.activation.operands ≡ accesses → P (numbered_field_decision program limits s t thread frame how type n (Some key))
     keyed_has how type is =
         cond_both (is_static_use how) _ _ P
-        (λ _. asking_has program limits s t thread P field_tests n.class _ (static_has how type is))
+        (λ _. class_use_has program limits s t thread P field_tests n.class _ (static_has how type is))
         (λ _. instance_has how type (object_of_use how type frame.activation.operands) refl is)
 
   -- ---- The field of a reference

@@ -22,16 +22,16 @@ use Rattle.jvms_program.specs.declared.program.Loadable.TheVariants as loadable
 use Rattle.jvms_program.specs.declared.program.Method.{Method}
 use Rattle.jvms_program.specs.declared.thrown.Thrown.TheVariants as thrown
 use Rattle.jvms_machine.specs.Actions.{effect_items}
-use Rattle.jvms_machine.specs.Arrays.{array_length_decision, counted_lengths, if_deep, is_int, is_negative, length_decision, lengths_in, making, object_length_decision, new_array_decision, new_arrays_decision, new_arrays_room, new_class_array_decision}
+use Rattle.jvms_machine.specs.Arrays.{array_length_decision, counted_lengths, if_deep, is_int, is_negative, length_decision, lengths_in, creation_decision, object_length_decision, new_array_decision, new_arrays_decision, new_arrays_room, new_class_array_decision}
 use Rattle.jvms_machine.specs.Calls.{entry_decision, first_call, first_call_decision, run_decision, run_of_class, run_of_object, selected_run}
 use Rattle.jvms_machine.specs.Decisions.{TurnDecision}
 use Rattle.jvms_machine.specs.Exceptions.{has_room_for}
-use Rattle.jvms_machine.specs.Fields.{reaches, taking}
+use Rattle.jvms_machine.specs.Fields.{reaches, next_action}
 use Rattle.jvms_machine.specs.Heap.{array_of_class, array_of_type, arrays_made, elements_made, has_dimensions, has_room_for_elements}
 use Rattle.jvms_machine.specs.Initialisation.{asked_superclass, initialisation_decision, initializer_call, initializer_decision, initializer_of, superclass_decision}
 use Rattle.jvms_machine.specs.Locals.{is_profile_kind}
 use Rattle.jvms_machine.specs.Locking.{enter_object, exit_object, monitor_enter_decision, monitor_exit_decision, on_top_object}
-use Rattle.jvms_machine.specs.Monitors.{fails_to_unlock, is_empty, leaving, unlocking}
+use Rattle.jvms_machine.specs.Monitors.{fails_to_unlock, is_empty, monitor_exit, frame_unlocking}
 use Rattle.jvms_machine.specs.Objects.{cast, class_decision, existing_or_new, instance_of_number, is_instantiable, loadable_decision, creation_if_room, new_instance_decision, instance_test_result, with_class_of}
 use Rattle.jvms_machine.specs.Places.{kind_size, top_value}
 use Rattle.jvms_machine.specs.Profile.{is_outside_method}
@@ -54,7 +54,7 @@ use Rattle.jvms_machine.specs.declared.machine.Outcome.{Outcome}
 use Rattle.jvms_machine.specs.declared.state.StackFrame.TheVariants as stack_frame
 use Rattle.jvms_machine.specs.declared.value.Value.{Value}
 use Rattle.jvms_machine.specs.declared.value.Value.TheVariants as value
-use Rattle.turn_item_laws.proofs.DecisionWalks.{IsOfTests, asking_has, called_has, entering_has, if_deep_has, numbered_has, with_int_has, with_object_has}
+use Rattle.turn_item_laws.proofs.DecisionWalks.{IsOfTests, class_use_has, called_has, monitor_entry_has, if_deep_has, numbered_has, with_int_has, with_object_has}
 use Rattle.turn_item_laws.proofs.SilentItems.{AreSilent, acquires_are_silent, none_is_silent, releases_are_silent}
 
 -- A property of tests, of silent instructions that continue, and of `athrow`.
@@ -75,18 +75,18 @@ pub record IsOfPops (limits : Limits) (s : State) (frames : List Frame) (P : Tur
 -- ---- Frames that are popped
 
 module _ (program : List Class) (limits : Limits) (s : State) (t : ℕ) (frames : List Frame) (P : TurnDecision → Type 0) (pops : IsOfPops limits s frames P) where
-  unlocking_by : (r : ℕ) (o : Option MonitorUse) (fails : TurnDecision) (make : Option MonitorUse → TurnDecision) → o ≡ leaving s t r → P fails → ((unlock : Option MonitorUse) → P (make unlock)) → P (unlocking s t (Some r) fails make)
-  unlocking_by r None fails make e fail has = rw (← e) fail
-  unlocking_by r (Some monitor) fails make e fail has = rw (← e) (has (Some monitor))
+  frame_unlocking_by : (r : ℕ) (o : Option MonitorUse) (fails : TurnDecision) (make : Option MonitorUse → TurnDecision) → o ≡ monitor_exit s t r → P fails → ((unlock : Option MonitorUse) → P (make unlock)) → P (frame_unlocking s t (Some r) fails make)
+  frame_unlocking_by r None fails make e fail has = rw (← e) fail
+  frame_unlocking_by r (Some monitor) fails make e fail has = rw (← e) (has (Some monitor))
 
-  unlocking_has : (o : Option ℕ) (fails : TurnDecision) (make : Option MonitorUse → TurnDecision) → P fails → ((unlock : Option MonitorUse) → P (make unlock)) → P (unlocking s t o fails make)
-  unlocking_has None fails make fail has = has None
-  unlocking_has (Some r) fails make fail has = unlocking_by r (leaving s t r) fails make refl fail has
+  frame_unlocking_has : (o : Option ℕ) (fails : TurnDecision) (make : Option MonitorUse → TurnDecision) → P fails → ((unlock : Option MonitorUse) → P (make unlock)) → P (frame_unlocking s t o fails make)
+  frame_unlocking_has None fails make fail has = has None
+  frame_unlocking_has (Some r) fails make fail has = frame_unlocking_by r (monitor_exit s t r) fails make refl fail has
 
   module _ (f : MethodFrame) (below : List Frame) (is : frames ≡ stack_frame.Call f ∷ below) where
     returned_has : (result : Option Value) → P (returned_decision limits s t f below result)
     returned_has result =
-        unlocking_has f.monitor (fails_to_unlock limits s f.method below) (returns_to f.method below result) (pops.fails f below is) (λ unlock. pops.returned f below result unlock is)
+        frame_unlocking_has f.monitor (fails_to_unlock limits s f.method below) (returns_to f.method below result) (pops.fails f below is) (λ unlock. pops.returned f below result unlock is)
 
     return_value_has : (type : ResultType) (k : Kind) (o : Option Value) → P (return_value_decision limits s t f below type k o)
     return_value_has type k None = pops.unmade _
@@ -108,7 +108,7 @@ module _ (program : List Class) (limits : Limits) (s : State) (t : ℕ) (frames 
 
     handler_has : (r : ℕ) (o : Option ExceptionHandler) → P (handler_decision limits s t f below r o)
     handler_has r None =
-        unlocking_has f.monitor (fails_to_unlock limits s f.method below) (λ unlock. decision.Applies (action.Unwinds f.method (is_empty below) unlock)) (pops.fails f below is) (λ unlock. pops.unwinds f below unlock is)
+        frame_unlocking_has f.monitor (fails_to_unlock limits s f.method below) (λ unlock. decision.Applies (action.Unwinds f.method (is_empty below) unlock)) (pops.fails f below is) (λ unlock. pops.unwinds f below unlock is)
     handler_has r (Some h) = cond_both (f.body.max_stack == 0) _ _ P (λ _. pops.unmade _) (λ _. pops.catches r h.target)
 
   top_has : (fs : List Frame) (r : ℕ) (o : Object) → frames ≡ fs → P (top_decision program limits s t fs r o)
@@ -136,8 +136,8 @@ module _ (program : List Class) (limits : Limits) (s : State) (t : ℕ) (thread 
   nothing_has : (act : FrameAction) → P (reaches effect.Nothing act)
   nothing_has act = leaves.reached effect.Nothing act none_is_silent
 
-  making_has : (takes : ℕ) (what : NewObject (List ℕ)) → P (making s takes what)
-  making_has takes what = leaves.reached (effect.Creates what) _ none_is_silent
+  creation_has : (takes : ℕ) (what : NewObject (List ℕ)) → P (creation_decision s takes what)
+  creation_has takes what = leaves.reached (effect.Creates what) _ none_is_silent
 
   throwable_has : (r : ℕ) (o : Object) → P (throwable_decision program r o)
   throwable_has r o = cond_both (fits program (class_of o) (codes "java/lang/Throwable")) _ _ P (λ _. leaves.threw r) (λ _. tests.unmade _)
@@ -160,16 +160,16 @@ module _ (program : List Class) (limits : Limits) (s : State) (t : ℕ) (thread 
   unfolding monitor_enter_decision
   monitor_enter_has frame =
       deep frame 1 0 _ (on_top_has frame.activation.operands (enter_object limits s t thread frame)
-      (λ r o. entering_has program limits s t thread P tests r _ (λ monitor. leaves.reached (effect.Locks monitor) _ (acquires_are_silent t monitor))))
+      (λ r o. monitor_entry_has program limits s t thread P tests r _ (λ monitor. leaves.reached (effect.Locks monitor) _ (acquires_are_silent t monitor))))
 
-  exit_by : (frame : MethodFrame) (r : ℕ) (o : Object) (how : Option MonitorUse) → how ≡ leaving s t r → P (exit_object limits s t thread frame r o)
+  exit_by : (frame : MethodFrame) (r : ℕ) (o : Object) (how : Option MonitorUse) → how ≡ monitor_exit s t r → P (exit_object limits s t thread frame r o)
   exit_by frame r o None e = rw (← e) (tests.thrown_by thrown.IllegalMonitorStateException)
-  exit_by frame r o (Some monitor) e = rw (← e) (leaves.reached (effect.Unlocks monitor) (taking 1 frame.activation) (releases_are_silent t monitor))
+  exit_by frame r o (Some monitor) e = rw (← e) (leaves.reached (effect.Unlocks monitor) (next_action 1 frame.activation) (releases_are_silent t monitor))
 
   pub monitor_exit_has : (frame : MethodFrame) → P (monitor_exit_decision limits s t thread frame)
   unfolding monitor_exit_decision
   monitor_exit_has frame =
-      deep frame 1 0 _ (on_top_has frame.activation.operands (exit_object limits s t thread frame) (λ r o. exit_by frame r o (leaving s t r) refl))
+      deep frame 1 0 _ (on_top_has frame.activation.operands (exit_object limits s t thread frame) (λ r o. exit_by frame r o (monitor_exit s t r) refl))
 
   -- ---- New objects
 
@@ -179,7 +179,7 @@ module _ (program : List Class) (limits : Limits) (s : State) (t : ℕ) (thread 
       (λ _. tests.thrown_by thrown.NegativeArraySizeException)
       (λ _. cond_both (not (has_room_for_elements 1 (unsigned_abs n) limits s)) _ _ P
       (λ _. tests.thrown_by thrown.OutOfMemoryError)
-      (λ _. making_has 1 _))
+      (λ _. creation_has 1 _))
 
   pub new_array_has : (frame : MethodFrame) (type : ArrayType) → P (new_array_decision limits s thread frame type)
   new_array_has frame type =
@@ -196,7 +196,7 @@ module _ (program : List Class) (limits : Limits) (s : State) (t : ℕ) (thread 
       (λ _. tests.unmade _)
       (λ _. cond_both (not (has_room_for_elements (arrays_made lengths) (elements_made lengths) limits s)) _ _ P
       (λ _. tests.thrown_by thrown.OutOfMemoryError)
-      (λ _. making_has dimensions _))
+      (λ _. creation_has dimensions _))
 
   pub new_arrays_has : (frame : MethodFrame) (class : List ℕ) (dimensions : ℕ) → P (new_arrays_decision program limits s thread frame class dimensions)
   unfolding new_arrays_decision
@@ -224,11 +224,11 @@ module _ (program : List Class) (limits : Limits) (s : State) (t : ℕ) (thread 
   length_of_array_has frame = deep frame 1 1 _ (array_length_has frame.activation.operands)
 
   made_has : (takes : ℕ) (what : NewObject (List ℕ)) → P (creation_if_room limits s thread takes what)
-  made_has takes what = cond_both (has_room_for 1 limits s) _ _ P (λ _. making_has takes what) (λ _. tests.thrown_by thrown.OutOfMemoryError)
+  made_has takes what = cond_both (has_room_for 1 limits s) _ _ P (λ _. creation_has takes what) (λ _. tests.thrown_by thrown.OutOfMemoryError)
 
   instance_has : (o : Option ℕ) → P (instance_of_number program limits s t thread o)
   instance_has None = tests.unmade _
-  instance_has (Some class) = asking_has program limits s t thread P tests class _ (made_has 0 (new_object.Instance class))
+  instance_has (Some class) = class_use_has program limits s t thread P tests class _ (made_has 0 (new_object.Instance class))
 
   new_has : (name : List ℕ) (o : Option Class) → P (new_instance_decision program limits s t thread name o)
   new_has name None = tests.thrown_by thrown.NoClassDefFoundError
@@ -236,7 +236,7 @@ module _ (program : List Class) (limits : Limits) (s : State) (t : ℕ) (thread 
       cond_both (not (is_instantiable c.kind)) _ _ P (λ _. tests.thrown_by thrown.InstantiationError) (λ _. instance_has (class_number program name))
 
   cast_has : (frame : MethodFrame) (b : Bool) → P (cast limits s thread frame b)
-  cast_has frame true = nothing_has (taking 0 frame.activation)
+  cast_has frame true = nothing_has (next_action 0 frame.activation)
   cast_has frame false = tests.thrown_by thrown.ClassCastException
 
   told_has : (b : Bool) → P (instance_test_result b)
@@ -258,7 +258,7 @@ module _ (program : List Class) (limits : Limits) (s : State) (t : ℕ) (thread 
   class_has frame class_use.New name = deep frame 0 1 _ (new_has name (class_named program name))
   class_has frame class_use.NewArray name = new_class_array_has frame name
   class_has frame class_use.CheckCast name =
-      deep frame 1 1 _ (with_class_has name frame.activation.operands _ _ (nothing_has (taking 0 frame.activation)) (cast_has frame))
+      deep frame 1 1 _ (with_class_has name frame.activation.operands _ _ (nothing_has (next_action 0 frame.activation)) (cast_has frame))
   class_has frame class_use.InstanceOf name = deep frame 1 1 _ (with_class_has name frame.activation.operands _ _ (told_has false) told_has)
 
   held_or_made_has : (o : Option ℕ) (what : NewObject (List ℕ)) → P (existing_or_new limits s thread o what)
@@ -286,7 +286,7 @@ module _ (program : List Class) (limits : Limits) (s : State) (t : ℕ) (thread 
     entry_decision_has start (Some m) =
         cond_both (is_outside_method m.method_type) _ _ P
         (λ _. tests.unmade _)
-        (λ _. asking_has program limits s t thread P tests start.method.class _ (first_has None (length start.arguments) start.method m))
+        (λ _. class_use_has program limits s t thread P tests start.method.class _ (first_has None (length start.arguments) start.method m))
 
     selected_run_has : (r : ℕ) (o : Option ResolvedMethod) → P (selected_run program limits s t thread r o)
     selected_run_has r None = tests.thrown_by thrown.AbstractMethodError
@@ -318,7 +318,7 @@ module _ (program : List Class) (limits : Limits) (s : State) (t : ℕ) (thread 
 
     superclass_has : (o : Option ℕ) (continued : TurnDecision) → P continued → P (superclass_decision program limits s t thread o continued)
     superclass_has None continued holds = holds
-    superclass_has (Some super) continued holds = asking_has program limits s t thread P tests super continued holds
+    superclass_has (Some super) continued holds = class_use_has program limits s t thread P tests super continued holds
 
     pub initialisation_has : (class : ℕ) (called : Bool) (o : Option Class) → P (initialisation_decision program limits s t thread class called o)
     initialisation_has class called None = tests.unmade _

@@ -21,7 +21,7 @@ use Rattle.jvms_machine.specs.Actions.{effect_items}
 use Rattle.jvms_machine.specs.Activations.{has_depth}
 use Rattle.jvms_machine.specs.Calls.{are_of_call, call_decision, invoke_decision, object_call_decision, receiver_call_decision, receiver_of, resolved_call_decision, selected_method, selected_decision, static_call_decision, slots_of_call, wrong_receiver}
 use Rattle.jvms_machine.specs.Decisions.{TurnDecision, never_seen}
-use Rattle.jvms_machine.specs.Fields.{reaches, taking}
+use Rattle.jvms_machine.specs.Fields.{reaches, next_action}
 use Rattle.jvms_machine.specs.Natives.{native_of_class, object_printed, print_decision, prints, value_printed}
 use Rattle.jvms_machine.specs.Places.{whole_top}
 use Rattle.jvms_machine.specs.State.{Frame, MethodFrame, Object, State, Thread, array, class_object, class_of, instance, monitor_at, object_at, result_length, text}
@@ -46,7 +46,7 @@ use Rattle.jvms_machine.specs.declared.value.Value.TheVariants as value
 use Rattle.jvms_machine.proofs.CallDescriptors.{IsFound, called_has_type, numbered_has_descriptor, numbered_in_class, resolved_is_found, resolved_is_static, selected_is_found}
 use Rattle.jvms_machine.proofs.ThreadChanges.{Stands, frames_are_stack}
 use Rattle.turn_item_laws.proofs.CallLeaves.{AreKnown, IsOfCalls, IsOnTop}
-use Rattle.turn_item_laws.proofs.DecisionWalks.{IsOfTests, asking_has, called_has, numbered_has}
+use Rattle.turn_item_laws.proofs.DecisionWalks.{IsOfTests, class_use_has, called_has, numbered_has}
 use Rattle.turn_item_laws.proofs.ThreadMethods.{is_of_object, is_start_or_join, is_the_join, is_thread_class, no_join_elsewhere, numbered_has_name, start_is_no_join}
 use Rattle.turn_item_laws.specs.Accesses.{is_access}
 use Rattle.turn_item_laws.specs.Joins.{ended_thread_of, has_ended, is_join, is_thread_join, join_items, joined_by, joined_for, joined_of, receiver_reference, reference_of_value, selected_for}
@@ -59,8 +59,8 @@ module _ (program : List Class) (limits : Limits) (s : State) (t : ℕ) (thread 
   call_unmade : P never_seen
   call_unmade = call_tests.unmade (outcome.Bad cause.OutOfProfile)
 
-  goes_on_with : (what : Effect (List ℕ)) (takes : ℕ) → (AreKnown program limits s → filter is_join (effect_items program t what) ≡ joins) → filter is_access (effect_items program t what) ≡ [] → P (reaches what (taking takes frame.activation))
-  goes_on_with what takes joined quiet = leaves.reached what (taking takes frame.activation) refl joined quiet
+  goes_on_with : (what : Effect (List ℕ)) (takes : ℕ) → (AreKnown program limits s → filter is_join (effect_items program t what) ≡ joins) → filter is_access (effect_items program t what) ≡ [] → P (reaches what (next_action takes frame.activation))
+  goes_on_with what takes joined quiet = leaves.reached what (next_action takes frame.activation) refl joined quiet
 
   -- ---- The methods of PrintStream
 
@@ -196,7 +196,7 @@ module _ (program : List Class) (limits : Limits) (s : State) (t : ℕ) (thread 
     static_has : (found : ResolvedMethod) → IsFound program r.descriptor found → found.method.flags.is_static ≡ true → joins ≡ [] → P (static_call_decision program limits s t thread frame.activation (slots_of_call how r.method_type) found)
     static_has found is static none =
         numbered_has program limits s t thread P call_tests (method_number program found) _
-        (λ n m number m_is. asking_has program limits s t thread P call_tests n.class _
+        (λ n m number m_is. class_use_has program limits s t thread P call_tests n.class _
         (call_has None (slots_of_call how r.method_type) n m (λ native c c_is. static_joins found n m c is static none number c_is)))
 
     -- A call that isn't static, with the method selected for its receiver.

@@ -5,10 +5,10 @@ use Rattle.std.proofs.lemmas.Bool.Decides.{eqb_tells}
 use Rattle.std.proofs.lemmas.Option.{none-some, same_Some}
 use Rattle.jvms_program.specs.declared.program.Class.{Class}
 use Rattle.jvms_program.specs.declared.thrown.Thrown.{Thrown}
-use Rattle.jvms_machine.specs.Actions.{affected, applied_to, arguments_of, with_initialisation_frame, stack_after_return, calling, caught, changed_to, after_end, after_failure, first_arguments, first_called, thread_after_action, initialising, initializer_called, operands_of, without_top, put_to_wait, with_pending, after_return, after_throw, stack_without_operands, stack_after_action, top_handling, unwound, after_wait, with_changed, with_class_constants, with_exception, with_lock, with_result, with_retaken, with_unlock, with_waiter}
+use Rattle.jvms_machine.specs.Actions.{after_effect, applied_to, arguments_of, with_initialisation_frame, stack_after_return, thread_with_call, caught, changed_to, after_end, after_failure, first_arguments, first_called, thread_after_action, thread_with_initializer, initializer_called, operands_of, without_top, put_to_wait, with_pending, after_return, after_throw, stack_without_operands, stack_after_action, top_handling, unwound, after_wait, with_changed, with_class_constants, with_exception, with_lock, with_result, with_retaken, with_unlock, with_waiter}
 use Rattle.jvms_machine.specs.Calls.{frame_of_call}
 use Rattle.jvms_machine.specs.Decisions.{TurnAction, TurnDecision}
-use Rattle.jvms_machine.specs.Exceptions.{exception_of, exception_reference, raising, throws}
+use Rattle.jvms_machine.specs.Exceptions.{exception_of, exception_reference, raise_decision, throws}
 use Rattle.jvms_machine.specs.Monitors.{is_empty, locked_reference}
 use Rattle.jvms_machine.specs.Opening.{opening}
 use Rattle.jvms_machine.specs.Returns.{returns_to}
@@ -60,9 +60,9 @@ has_below : (frames below : List Frame) (f : Frame) → frames ≡ f ∷ below �
 has_below frames [] f is some = absurd (cc)
 has_below frames (g ∷ below) f is some = subst HasBelow (sym is) tt
 
-raising_is : (all frames : List Frame) (e : Exception) → IsOf all (raising frames e)
-raising_is all [] e = tt
-raising_is all (f ∷ below) e = tt
+raise_is : (all frames : List Frame) (e : Exception) → IsOf all (raise_decision frames e)
+raise_is all [] e = tt
+raise_is all (f ∷ below) e = tt
 
 returns_is : (frames below : List Frame) (f : MethodFrame) (result : Option Value) (unlock : Option MonitorUse) → frames ≡ stack_frame.Call f ∷ below → IsOf frames (returns_to f.method below result unlock)
 returns_is frames [] f result unlock is = tt
@@ -74,7 +74,7 @@ module _ (program : List Class) (limits : Limits) (start : Start) (s : State) (t
 
   throws_is : (class : Thrown) → IsOfThread (throws limits s thread class)
   unfolding throws
-  throws_is class = raising_is thread.frames thread.frames (exception_of limits s class)
+  throws_is class = raise_is thread.frames thread.frames (exception_of limits s class)
 
   tests_are : IsOfTests limits s thread IsOfThread
   tests_are = record { unmade = λ o. tt; thrown_by = throws_is; begun_by = λ class. tt }
@@ -183,7 +183,7 @@ module _ (program : List Class) (limits : Limits) (start : Start) (s : State) (t
       own_has s (thread_after_action act) (grown_not s.threads) (λ made lives. lives_on (stack_after_action act thread.frames) (gone_on_ends act thread.frames) made)
   action_has (action.Reaches what act) of =
       let operands = operands_of (slice_get s.threads t) in
-      own_has (affected program s t operands what) (thread_after_action act) (affected_threads program s t operands what)
+      own_has (after_effect program s t operands what) (thread_after_action act) (affected_threads program s t operands what)
       (λ made lives. lives_on (stack_after_action act thread.frames) (gone_on_ends act thread.frames) made)
   action_has (action.Begins class) of =
       let f = stack_frame.Initialisation class false in
@@ -197,14 +197,14 @@ module _ (program : List Class) (limits : Limits) (start : Start) (s : State) (t
       own_result (with_changed (with_unlock s unlock) t after_end) result (own_has (with_unlock s unlock) after_end (unlocked_threads s unlock) (ended_has (after_end thread) refl))
   action_has (action.Calls method body takes locked) of =
       let callee = frame_of_call method body (locked_reference locked) (arguments_of takes (slice_get s.threads t)) in
-      own_has (with_lock program s t locked) (calling callee takes) (locked_threads program s t locked)
+      own_has (with_lock program s t locked) (thread_with_call callee takes) (locked_threads program s t locked)
       (λ made lives. lives_on (stack_frame.Call callee ∷ stack_without_operands takes thread.frames) (λ is. begun_ends (stack_frame.Call callee) (stack_without_operands takes thread.frames) (given_ends takes thread.frames is)) made)
   action_has (action.Returns method result unlock) of =
       own_has (with_unlock s unlock) (after_return result) (unlocked_threads s unlock)
       (λ made lives. lives_on (stack_after_return result (drop 1 thread.frames)) (λ is. returned_ends result (drop 1 thread.frames) (popped_ends thread.frames of is)) made)
   action_has (action.Initialises method body) of =
       let callee = frame_of_call method body None [] in
-      own_has s (initialising callee) (grown_not s.threads)
+      own_has s (thread_with_initializer callee) (grown_not s.threads)
       (λ made lives. lives_on (stack_frame.Call callee ∷ initializer_called thread.frames) (λ is. begun_ends (stack_frame.Call callee) (initializer_called thread.frames) (initialising_ends thread.frames is)) made)
   action_has (action.Throws r) of =
       own_has s (after_throw r) (grown_not s.threads) (λ made lives. lives_on (stack_without_operands 1 thread.frames) (given_ends 1 thread.frames) made)

@@ -8,7 +8,7 @@ use Rattle.jvms_program.specs.declared.program.Class.{Class}
 use Rattle.jvms_program.specs.declared.thrown.Thrown.{Thrown}
 use Rattle.jvms_machine.specs.Actions.{effect_items, enter_items, exit_items, items_of, lock_items}
 use Rattle.jvms_machine.specs.Decisions.{TurnDecision}
-use Rattle.jvms_machine.specs.Exceptions.{exception_of, raising, throws}
+use Rattle.jvms_machine.specs.Exceptions.{exception_of, raise_decision, throws}
 use Rattle.jvms_machine.specs.Fields.{reaches}
 use Rattle.jvms_machine.specs.Monitors.{fails_to_unlock}
 use Rattle.jvms_machine.specs.Returns.{returns_to}
@@ -35,14 +35,14 @@ module _ (program : List Class) (limits : Limits) (s : State) (t : ℕ) where
   pub unmade_is_silent : (o : Outcome) → IsSilent (decision.Stays o)
   unmade_is_silent o = none_is_silent
 
-  pub raising_is_silent : (frames : List Frame) (e : Exception) → IsSilent (raising frames e)
+  pub raise_is_silent : (frames : List Frame) (e : Exception) → IsSilent (raise_decision frames e)
   unfolding items_of
-  raising_is_silent [] e = none_is_silent
-  raising_is_silent (f ∷ below) e = none_is_silent
+  raise_is_silent [] e = none_is_silent
+  raise_is_silent (f ∷ below) e = none_is_silent
 
   pub throws_is_silent : (thread : Thread) (class : Thrown) → IsSilent (throws limits s thread class)
   unfolding throws
-  throws_is_silent thread class = raising_is_silent thread.frames (exception_of limits s class)
+  throws_is_silent thread class = raise_is_silent thread.frames (exception_of limits s class)
 
   pub begins_is_silent : (class : ℕ) → IsSilent (decision.Applies (action.Begins class))
   unfolding items_of

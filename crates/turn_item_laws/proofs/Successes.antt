@@ -6,11 +6,11 @@ use Rattle.jvms_program.specs.declared.number.MethodNumber.{MethodNumber}
 use Rattle.jvms_program.specs.declared.program.Body.{Body}
 use Rattle.jvms_program.specs.declared.program.Class.{Class}
 use Rattle.jvms_program.specs.declared.thrown.Thrown.{Thrown}
-use Rattle.jvms_machine.specs.Actions.{affected, applied_to, arguments_of, with_initialisation_frame, frame_after_action, calling, changed_to, effect_items, without_arguments, thread_after_action, items_of, operands_of, put_to_wait, with_pending, stack_without_operands, stack_after_action, with_changed, with_class_constants, with_exception, with_lock, with_waiter}
-use Rattle.jvms_machine.specs.Activations.{applied}
+use Rattle.jvms_machine.specs.Actions.{after_effect, applied_to, arguments_of, with_initialisation_frame, frame_after_action, thread_with_call, changed_to, effect_items, without_arguments, thread_after_action, items_of, operands_of, put_to_wait, with_pending, stack_without_operands, stack_after_action, with_changed, with_class_constants, with_exception, with_lock, with_waiter}
+use Rattle.jvms_machine.specs.Activations.{activation_after}
 use Rattle.jvms_machine.specs.Calls.{frame_of_call}
 use Rattle.jvms_machine.specs.Decisions.{TurnDecision}
-use Rattle.jvms_machine.specs.Exceptions.{exception_of, exception_reference, raising, throws}
+use Rattle.jvms_machine.specs.Exceptions.{exception_of, exception_reference, raise_decision, throws}
 use Rattle.jvms_machine.specs.Fields.{reaches}
 use Rattle.jvms_machine.specs.Monitors.{locked_reference}
 use Rattle.jvms_machine.specs.Start.{Start}
@@ -30,7 +30,7 @@ use Rattle.jvms_machine.specs.declared.trace.Item.{Item}
 use Rattle.jvms_machine.proofs.ListLaws.{get_set_same}
 use Rattle.turn_item_laws.proofs.CallLeaves.{AreKnown, IsNext, IsOfCalls, IsOnTop}
 use Rattle.turn_item_laws.proofs.SilentItems.{AreSilent, none_is_silent}
-use Rattle.turn_item_laws.proofs.SilentTurns.{begins_is_silent, calls_is_silent, raising_is_silent, waits_is_silent}
+use Rattle.turn_item_laws.proofs.SilentTurns.{begins_is_silent, calls_is_silent, raise_is_silent, waits_is_silent}
 use Rattle.turn_item_laws.proofs.ThreadLaws.{AreThreadsGrown, affected_threads, constants_threads, exception_threads, grown_not, locked_threads}
 use Rattle.turn_item_laws.specs.Accesses.{is_access}
 use Rattle.turn_item_laws.specs.Joins.{is_join}
@@ -96,7 +96,7 @@ module _ (program : List Class) (limits : Limits) (start : Start) (s : State) (t
   calls_stays n body takes locked =
       let made = with_lock program s t locked in
       let callee = frame_of_call n body (locked_reference locked) (arguments_of takes (slice_get s.threads t)) in
-      further_to (with_changed made t (calling callee takes)) (Some callee) (changed_top made (calling callee takes) (locked_threads program s t locked))
+      further_to (with_changed made t (thread_with_call callee takes)) (Some callee) (changed_top made (thread_with_call callee takes) (locked_threads program s t locked))
       ∙ ne_eqb 0 (frame.activation.place + 1) (λ same. absurd (omega arith))
 
   -- A call of `wait` returns only later.
@@ -112,10 +112,10 @@ module _ (program : List Class) (limits : Limits) (start : Start) (s : State) (t
   unfolding applied_to
   reaches_goes_on what act next =
       let operands = operands_of (slice_get s.threads t) in
-      let made = affected program s t operands what in
+      let made = after_effect program s t operands what in
       further_to (with_changed made t (thread_after_action act)) (Some (frame_after_action act frame))
       (changed_top made (thread_after_action act) (affected_threads program s t operands what) ∙ ap (λ fs. call_on (stack_after_action act fs)) top.frames_are)
-      ∙ eq-eqb (applied act frame.activation).place (frame.activation.place + 1) next
+      ∙ eq-eqb (activation_after act frame.activation).place (frame.activation.place + 1) next
 
   -- ---- The items of decisions
 
@@ -129,13 +129,13 @@ module _ (program : List Class) (limits : Limits) (start : Start) (s : State) (t
   pub unmade_is_told : (o : Outcome) → Told (decision.Stays o)
   unmade_is_told o = stays_is_told (decision.Stays o) none_is_silent (unmade_stays o)
 
-  raising_by : (frames : List Frame) (e : Exception) → frames ≡ stack_frame.Call frame ∷ below → Told (raising frames e)
-  raising_by [] e is = absurd (cc)
-  raising_by (f ∷ fs) e is = stays_is_told (decision.Applies (action.Raises e)) (raising_is_silent program limits s t (f ∷ fs) e) (raises_stays e)
+  raise_by : (frames : List Frame) (e : Exception) → frames ≡ stack_frame.Call frame ∷ below → Told (raise_decision frames e)
+  raise_by [] e is = absurd (cc)
+  raise_by (f ∷ fs) e is = stays_is_told (decision.Applies (action.Raises e)) (raise_is_silent program limits s t (f ∷ fs) e) (raises_stays e)
 
   throws_is_told : (class : Thrown) → Told (throws limits s thread class)
   unfolding throws
-  throws_is_told class = raising_by thread.frames (exception_of limits s class) top.frames_are
+  throws_is_told class = raise_by thread.frames (exception_of limits s class) top.frames_are
 
   begins_is_told : (class : ℕ) → Told (decision.Applies (action.Begins class))
   begins_is_told class = stays_is_told (decision.Applies (action.Begins class)) (begins_is_silent program limits s t class) (begins_stays class)

@@ -6,7 +6,7 @@ use Rattle.std.proofs.lemmas.Option.{none-some, same_Some}
 use Rattle.jvms_program.specs.Program.{field_key_at}
 use Rattle.jvms_program.specs.declared.key.FieldKey.{FieldKey}
 use Rattle.jvms_program.specs.declared.program.Class.{Class}
-use Rattle.jvms_machine.specs.Actions.{affected, applied_to, changed_to, operands_of, put_field, put_static, put_to_wait, after_wait, with_changed, with_class_constants, with_exception, with_lock, with_result, with_retaken, with_unlock, with_waiter}
+use Rattle.jvms_machine.specs.Actions.{after_effect, applied_to, changed_to, operands_of, put_field, put_static, put_to_wait, after_wait, with_changed, with_class_constants, with_exception, with_lock, with_result, with_retaken, with_unlock, with_waiter}
 use Rattle.jvms_machine.specs.Decisions.{TurnAction, TurnDecision}
 use Rattle.jvms_machine.specs.Start.{Start}
 use Rattle.jvms_machine.specs.State.{State, Thread, new_thread}
@@ -90,7 +90,7 @@ static_threads : (s : State) (v : Value) (o : Option FieldKey) → AreThreadsGro
 static_threads s v None = grown_not s.threads
 static_threads s v (Some key) = grown_not s.threads
 
-pub affected_threads : (program : List Class) (s : State) (t : ℕ) (operands : List Value) (what : Effect (List ℕ)) → AreThreadsGrown s.threads (affected program s t operands what).threads
+pub affected_threads : (program : List Class) (s : State) (t : ℕ) (operands : List Value) (what : Effect (List ℕ)) → AreThreadsGrown s.threads (after_effect program s t operands what).threads
 affected_threads program s t operands effect.Nothing = grown_not s.threads
 affected_threads program s t operands (effect.GetField r n) = grown_not s.threads
 affected_threads program s t operands (effect.PutField r n v) = field_threads s r v (field_key_at program n)
@@ -140,7 +140,7 @@ module _ (program : List Class) (start : Start) (s : State) (t : ℕ) where
   unfolding applied_to
   action_keeps (action.Goes act) = itself _
   action_keeps (action.Reaches what act) =
-      in_state (affected program s t (operands_of (slice_get s.threads t)) what) _ (affected_threads program s t (operands_of (slice_get s.threads t)) what)
+      in_state (after_effect program s t (operands_of (slice_get s.threads t)) what) _ (affected_threads program s t (operands_of (slice_get s.threads t)) what)
   action_keeps (action.Begins class) = in_state (with_class_constants s (slice_get program class)) _ (constants_threads s (slice_get program class))
   action_keeps (action.Finishes class) = itself _
   action_keeps (action.Enters method body locked) = in_state (with_lock program s t locked) _ (locked_threads program s t locked)
@@ -186,7 +186,7 @@ module _ (program : List Class) (start : Start) (s : State) (t : ℕ) (thread : 
   unfolding applied_to
   action_keeps_object (action.Goes act) = object_of_itself _ refl
   action_keeps_object (action.Reaches what act) =
-      object_of_changed (affected program s t (operands_of (slice_get s.threads t)) what) _ (affected_threads program s t (operands_of (slice_get s.threads t)) what) refl
+      object_of_changed (after_effect program s t (operands_of (slice_get s.threads t)) what) _ (affected_threads program s t (operands_of (slice_get s.threads t)) what) refl
   action_keeps_object (action.Begins class) = object_of_changed (with_class_constants s (slice_get program class)) _ (constants_threads s (slice_get program class)) refl
   action_keeps_object (action.Finishes class) = object_of_itself _ refl
   action_keeps_object (action.Enters method body locked) = object_of_changed (with_lock program s t locked) _ (locked_threads program s t locked) refl

@@ -26,7 +26,7 @@ use Rattle.jvms_machine.specs.Start.{Start}
 use Rattle.jvms_machine.specs.State.{Frame, MethodFrame, State, Thread, monitor_at, status_by}
 use Rattle.jvms_machine.specs.Steps.{beyond_unless, frame_decision, instruction_at}
 use Rattle.jvms_machine.specs.Turn.{frame_turn_decision, frames_decision, started_decision, instruction_decision, reaching_decision}
-use Rattle.jvms_machine.specs.Waiting.{is_waiter, retaking, waiting_decision}
+use Rattle.jvms_machine.specs.Waiting.{is_waiter, retake_decision, waiting_decision}
 use Rattle.jvms_machine.specs.declared.action.Action.TheVariants as action
 use Rattle.jvms_machine.specs.declared.action.Decision.TheVariants as decision
 use Rattle.jvms_machine.specs.declared.action.FrameAction.{FrameAction}
@@ -175,16 +175,16 @@ module _ (program : List Class) (limits : Limits) (start : Start) (s : State) (t
         initialisation_has program limits s t thread (P [] []) leaves.actions leaves.initialises (leaves.finishes class called below is) class called (slice_get program class)
     stack_has (stack_frame.Call frame ∷ below) there awake is = frame_turn_has frame below (record { given_out = there; awake = awake; frames_are = is }) (instruction_at frame) refl
 
-    retaking_has : (w : Wait) (o : Option Hold) → P [] [] (retaking w o)
-    retaking_has w (Some h) = silent_tests.unmade (outcome.Blocked (blocked.Monitor w.reference h.owner))
-    retaking_has w None = leaves.retakes w
+    retake_has : (w : Wait) (o : Option Hold) → P [] [] (retake_decision w o)
+    retake_has w (Some h) = silent_tests.unmade (outcome.Blocked (blocked.Monitor w.reference h.owner))
+    retake_has w None = leaves.retakes w
 
     waiting_has : (w : Wait) → P [] [] (waiting_decision s t w)
     unfolding waiting_decision
     waiting_has w =
         cond_both (is_waiter t s.waiters) _ _ (P [] [])
         (λ _. silent_tests.unmade (outcome.Blocked (blocked.Wait w.reference)))
-        (λ _. retaking_has w (monitor_at s.monitors w.reference))
+        (λ _. retake_has w (monitor_at s.monitors w.reference))
 
     -- The turn of a thread by its status.
     pub given_out_has : (has_ended : Bool) (pending : Option ℕ) (waits : Option Wait) → slice_get s.threads t ≡ Some thread → thread.waits ≡ waits → OfCall (call_by thread (status_by has_ended pending waits)) (started_decision program limits start s t thread (status_by has_ended pending waits))

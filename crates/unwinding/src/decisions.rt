@@ -80,7 +80,7 @@ fn popped_decision<'p>(
     ensures { decision_value result
         ≡ popped_decision parts.now.limits parts.now.state t frame.now (drop 1 thread.now.frames) }
 {
-    match parts.unlocking(t, frame) {
+    match parts.frame_unlocking(t, frame) {
         Unlocking::Fails => parts.fails_to_unlock(thread, frame),
         Unlocking::Leaves(unlock) => Decision::Applies(Action::Unwinds {
             method: frame.method(),

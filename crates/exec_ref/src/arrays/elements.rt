@@ -17,7 +17,8 @@ use jvms_machine::machine::BadCause;
 use jvms_machine::value::Value;
 use jvms_program::thrown::Thrown;
 use machine_parts::{
-    Decided, Parts, bad, has_depth, never_seen, reaches, read_decision, stored_in_component, taking,
+    Decided, Parts, bad, has_depth, never_seen, next_action, reaches, read_decision,
+    stored_in_component,
 };
 use machine_thread::Thread;
 
@@ -140,7 +141,10 @@ fn store_to<'p>(
         index: n.unsigned_abs(),
         value: stored_in_component(component, value),
     };
-    reaches(stored, taking(2 + u16::from(element_size(kind)), frame))
+    reaches(
+        stored,
+        next_action(2 + u16::from(element_size(kind)), frame),
+    )
 }
 
 /// Decides a store of a value. Below the value are the index and then the array.

@@ -4,11 +4,11 @@ ghost use Rattle.std.specs.Prelude.{◌≡◌, ℕ, ◌+◌, ◌*◌, ◌<◌, �
 ghost use Rattle.std.specs.List.{list_all, list_any};
 ghost use Rattle.jvms_machine.specs.Heap.{arrays_made, elements_made, has_dimensions, has_room_for_elements};
 ghost use Rattle.jvms_machine.specs.Arrays.{is_int, is_negative, length_of_value, new_arrays_room, new_arrays_decision};
-ghost use Rattle.exec_ref.specs.Counting.{capped, lengths_decision};
+ghost use Rattle.exec_ref.specs.Counting.{capped_count, lengths_decision};
 ghost use Rattle.machine_parts.specs.Decided.{decision_value};
 
 use super::components::{after_bracket, component_type};
-use crate::arrays::{has_room_for_elements, making};
+use crate::arrays::{creation_decision, has_room_for_elements};
 use frames::Frame;
 use jvms_machine::action::NewObject;
 use jvms_machine::machine::BadCause;
@@ -75,7 +75,7 @@ fn grown(base: usize, times: usize, part: usize) -> usize
     requires base { base ≤ 0x80000000 }
     requires times { times ≤ 0x80000000 }
     requires part { part ≤ 0x100000000 }
-    ensures { result ≡ capped (base + times * part) }
+    ensures { result ≡ capped_count (base + times * part) }
 {
     let whole = base + times * part;
     if whole > MOST { MOST } else { whole }
@@ -85,8 +85,8 @@ fn grown(base: usize, times: usize, part: usize) -> usize
 /// first, and both counts are capped.
 #[tactic(auto, using(crate::proofs::CountLaws::arrays_grow, crate::proofs::CountLaws::elements_grow))]
 fn counted(lengths: &[Value]) -> (usize, usize)
-    ensures arrays { result.0 ≡ capped (arrays_made (map length_of_value lengths.now)) }
-    ensures elements { result.1 ≡ capped (elements_made (map length_of_value lengths.now)) }
+    ensures arrays { result.0 ≡ capped_count (arrays_made (map length_of_value lengths.now)) }
+    ensures elements { result.1 ≡ capped_count (elements_made (map length_of_value lengths.now)) }
 {
     match lengths {
         [] => (0, 0),
@@ -114,7 +114,7 @@ fn any_is_negative(lengths: &[Value]) -> bool
 /// exact ones.
 #[tactic(auto, using(crate::proofs::CountLaws::room_counted))]
 fn has_room_for_counted(parts: &Parts, objects: usize, elements: usize) -> bool
-    ensures exact { (whole more : ℕ) → objects ≡ capped whole → elements ≡ capped more
+    ensures exact { (whole more : ℕ) → objects ≡ capped_count whole → elements ≡ capped_count more
         → result ≡ has_room_for_elements whole more parts.now.limits parts.now.state }
     ensures number { IsTrue result → length parts.now.state.heap + objects < 2 ^ 32 }
 {
@@ -144,7 +144,7 @@ fn new_arrays_room<'p>(
         return parts.throws(thread, Thrown::OutOfMemoryError);
     }
     let class = ActionText::Of(class);
-    making(parts, dimensions, NewObject::Arrays { class, dimensions })
+    creation_decision(parts, dimensions, NewObject::Arrays { class, dimensions })
 }
 
 /// Decides the creation of arrays whose lengths are operands. It tests the kinds, then the array's class, then that no

@@ -2,11 +2,11 @@
 
 ghost use Rattle.std.specs.Prelude.{◌≡◌, ◌+◌, ◌<◌, ◌^◌, OnOk, OnErr, length, map};
 ghost use Rattle.jvms_machine.specs.declared.action.Action.TheVariants as action;
-ghost use Rattle.jvms_machine.specs.Actions.{with_initialisation_frame, initialising, items_of, with_changed, with_initialisation, with_texts};
+ghost use Rattle.jvms_machine.specs.Actions.{with_initialisation_frame, thread_with_initializer, items_of, with_changed, with_initialisation, with_texts};
 ghost use Rattle.jvms_machine.specs.State.{text};
 ghost use Rattle.jvms_machine.specs.Turn.{IsReady};
 ghost use Rattle.heap.specs.Objects.{with_new};
-ghost use Rattle.machine_parts.specs.Marks.{listed};
+ghost use Rattle.machine_parts.specs.Marks.{item_list};
 ghost use Rattle.machine_parts.specs.Ready.{HasTextsToMake};
 ghost use Rattle.machine_parts.specs.Machine.{with_state, after};
 ghost use Rattle.trace.specs.Recording.{with_items};
@@ -107,8 +107,8 @@ fn call_initializer<'p>(
     item: Option<Item>,
     trace: &mut Recording,
 ) -> Result<(), AllocError>
-    ensures state { OnOk result (thread.new ≡ initialising frame.entry thread.old) }
-    ensures items { OnOk result (trace.new ≡ with_items trace.old (listed item)) }
+    ensures state { OnOk result (thread.new ≡ thread_with_initializer frame.entry thread.old) }
+    ensures items { OnOk result (trace.new ≡ with_items trace.old (item_list item)) }
     ensures kept { OnErr result (thread.new ≡ thread.old) }
     ensures no_items { OnErr result (trace.new ≡ trace.old) }
 {

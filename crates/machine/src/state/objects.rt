@@ -4,7 +4,7 @@ ghost use Rattle.std.specs.Prelude.{◌≡◌, length, IfOk};
 ghost use Rattle.std.specs.Option.{option_map};
 ghost use Rattle.jvms_machine.specs.State.{monitor_at, text_reference, class_reference};
 ghost use Rattle.jvms_machine.specs.Waiting.{waiters_of};
-ghost use Rattle.heap.specs.Objects.{asked, class_at, field_of, length_of, element_of, units_of, named_by};
+ghost use Rattle.heap.specs.Objects.{object_part, class_at, field_of, length_of, element_of, units_of, named_by};
 
 use crate::machine::Machine;
 use classes::FieldName;
@@ -37,21 +37,21 @@ impl Machine<'_> {
 
     /// Returns the value of an instance's field, or `None` if the object is no instance or has no such field.
     pub fn field(&self, reference: u32, key: &FieldName) -> Option<Value>
-        ensures { result ≡ asked (field_of key.now) self.now.state.heap reference }
+        ensures { result ≡ object_part (field_of key.now) self.now.state.heap reference }
     {
         self.parts.heap.field_named(reference, key)
     }
 
     /// Returns the length of an array, or `None` if the object is no array.
     pub fn array_length(&self, reference: u32) -> Option<usize>
-        ensures { result ≡ asked length_of self.now.state.heap reference }
+        ensures { result ≡ object_part length_of self.now.state.heap reference }
     {
         self.parts.heap.array_length(reference)
     }
 
     /// Returns the value of an array's element, or `None` if the object is no array or the index is beyond its end.
     pub fn element(&self, reference: u32, index: usize) -> Option<Value>
-        ensures { result ≡ asked (element_of index) self.now.state.heap reference }
+        ensures { result ≡ object_part (element_of index) self.now.state.heap reference }
     {
         self.parts.heap.element(reference, index)
     }
@@ -59,7 +59,7 @@ impl Machine<'_> {
     /// Returns the UTF-16 code units of a string, or `None` if the object is no string.
     pub fn text(&self, reference: u32) -> Option<&[u16]>
         ensures { option_map (λ units. units.now) result
-            ≡ asked units_of self.now.state.heap reference }
+            ≡ object_part units_of self.now.state.heap reference }
     {
         let units = self.parts.heap.units_of(reference)?;
         Some(units.as_slice())
@@ -68,7 +68,7 @@ impl Machine<'_> {
     /// Returns the name of the class that a class object stands for, or `None` if the object is none.
     pub fn class_object(&self, reference: u32) -> Option<&[u16]>
         ensures { option_map (λ name. name.now) result
-            ≡ asked named_by self.now.state.heap reference }
+            ≡ object_part named_by self.now.state.heap reference }
     {
         let name = self.parts.heap.name_of(reference)?;
         Some(name.as_slice())

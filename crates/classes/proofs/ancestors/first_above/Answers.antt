@@ -1,7 +1,7 @@
 use Rattle.std.proofs.Common.{◌≡◌, ℕ, Option, None, Some, refl, sym, ap, ◌∙◌}
 use Rattle.std.specs.List.{find}
 use Rattle.classes.specs.Marks.{is_marked}
-use Rattle.classes.specs.Places.{placed}
+use Rattle.classes.specs.Places.{match_with_number}
 use Rattle.classes.proofs.MarkingLaws.{row_is, stands_there}
 use Rattle.classes.proofs.WayLaws.{begun, found_here, found_nowhere, next_is, next_way, next_within}
 use Rattle.classes.proofs.ancestors.first_above.Goals as goal
@@ -14,7 +14,7 @@ pub loop-found-init : goal.loop-found-init
 loop-found-init g c = record {
   within = c.requires.class;
   reached = c.requires.itself;
-  way = begun c.args.ranked.now.classes.now (placed c.args.ranked.now.classes.now (g.L.Look.gives c.args.look.now)) c.args.class;
+  way = begun c.args.ranked.now.classes.now (match_with_number c.args.ranked.now.classes.now (g.L.Look.gives c.args.look.now)) c.args.class;
 }
 
 pub returns-in-Some : goal.returns-in-Some

@@ -1,4 +1,4 @@
-use Rattle.classes.specs.Places.{placed}
+use Rattle.classes.specs.Places.{match_with_number}
 use Rattle.classes.proofs.MarkingLaws.{AreUsefulBelow}
 use Rattle.classes.proofs.ancestors.mark_useful.Given as goal
 
@@ -6,4 +6,4 @@ use Rattle.classes.proofs.ancestors.mark_useful.Given as goal
 abbrev pub invariant-loop-place : goal.invariant-loop-place
 invariant-loop-place g l =
     AreUsefulBelow l.ranked.classes.now l.ranked.supers.now l.ranked.ranks.now l.ranked.order.now l.ranked.is_hierarchy
-    (placed l.ranked.classes.now (g.L.Look.gives l.look)) l.reached l.place l.useful
+    (match_with_number l.ranked.classes.now (g.L.Look.gives l.look)) l.reached l.place l.useful

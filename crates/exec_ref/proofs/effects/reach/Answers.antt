@@ -3,7 +3,7 @@ use Rattle.std.proofs.Common.{◌≡◌, ℕ, zero, suc, List, [], ◌∷◌, Op
 use Rattle.std.proofs.lemmas.Option.{none-some, same_Some}
 use Rattle.std.specs.Prelude.{IfSome}
 use Rattle.jvms_machine.specs.State.{State, Thread}
-use Rattle.jvms_machine.specs.Actions.{affected, applied_to, changed_to, thread_after_action, operands_of}
+use Rattle.jvms_machine.specs.Actions.{after_effect, applied_to, changed_to, thread_after_action, operands_of}
 use Rattle.jvms_machine.proofs.EffectSoundness.{affected_thread}
 use Rattle.machine_parts.specs.Decided.{effect_value}
 use Rattle.machine_parts.specs.Machine.{Machine, with_state}
@@ -41,7 +41,7 @@ returns-clause-state c =
     let m = c.args.parts.now in
     let t = c.args.t in
     let operands = operands_of (slice_get m.state.threads t) in
-    let s : State = affected m.program m.state t operands (effect_value c.args.effect) in
+    let s : State = after_effect m.program m.state t operands (effect_value c.args.effect) in
     let view = c.parts.view_is ∙ c.in_ok-affect.ensures.state in
     let at : slice_get s.threads t ≡ Some c.requires.ready.0 =
     affected_thread m.program m.state t operands (effect_value c.args.effect) t c.requires.ready.0 c.requires.ready.1 in

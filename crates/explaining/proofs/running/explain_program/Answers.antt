@@ -1,7 +1,7 @@
 -- The items of the run may be fed, and the explanation is that of the run.
 use Rattle.std.proofs.Common.{◌≡◌, ◌++◌, Ok, ap, subst, ◌∙◌}
 use Rattle.std.specs.String.{string_bytes}
-use Rattle.machine.specs.Started.{opened}
+use Rattle.machine.specs.Started.{opened_machine}
 use Rattle.program_runs.specs.Shown.{view_of_traced}
 use Rattle.program_runs.proofs.ShownRuns.{shown_may_be_fed}
 use Rattle.explaining.specs.EventTurns.{event_turns}
@@ -21,7 +21,7 @@ returns-clause-explained c =
     let program = c.args.program.now in
     let first = c.args.sources.now.first in
     let files = c.args.sources.now.files.now in
-    let m = opened program c.args.limits replayed.0 in
+    let m = opened_machine program c.args.limits replayed.0 in
     let lines = c.args.spec in
     let j = c.in_ok-explained.explained.judgement in
     let events = c.as_slice-events.ensures.value ∙ replayed.2 ∙ ap (event_turns 1 m) c.as_slice-choices.ensures in

@@ -4,7 +4,7 @@ use Rattle.std.proofs.lemmas.Bool.{both_ways}
 use Rattle.std.proofs.lemmas.List.{length-set}
 use Rattle.velodrome.specs.Cycles.{IsIn}
 use Rattle.atom_order.specs.declared.link.Link.{Link}
-use Rattle.atom_order.specs.Reaching.{is_among, marked}
+use Rattle.atom_order.specs.Reaching.{is_among, marked_transactions}
 use Rattle.atom_order.specs.Marking.{has_key, HasMarks}
 use Rattle.atom_order.specs.Shapes.{Shape, into_in, IsUsable, IsLinking}
 use Rattle.atom_order.proofs.Members.{among_from_in}
@@ -43,7 +43,7 @@ returns-then-is_closing-clause-ok c =
     let s = c.args.self.now in
     let t = c.args.transaction in
     let keys = c.in_ok-marks.marks.keys in
-    let has = subst (λ (l : List ℕ). HasMarks keys (marked (λ y. y == t) (into_in s) [] l)) c.live_from.ensures c.in_ok-marks.ensures in
+    let has = subst (λ (l : List ℕ). HasMarks keys (marked_transactions (λ y. y == t) (into_in s) [] l)) c.live_from.ensures c.in_ok-marks.ensures in
     closed_or c.closing.result _ _ _ _ c.closing.ensures
     (marked_closes s.live (into_in s) c.args.place t c.requires.place c.requires.there c.requires.usable.leads keys c.args.links.now has (sym c.is_closing.ensures ∙ c.if-is_closing.true)) refl
 

@@ -2,7 +2,7 @@
 use Rattle.std.proofs.Common.{ℕ, ◌≡◌, ◌<◌, ◌≤◌, ◌+◌, ◌++◌, ◌==◌, List, [], length, take, drop, get_or, set, refl, sym, ap, subst, ◌∙◌}
 use Rattle.std.proofs.lemmas.List.{length-set}
 use Rattle.atom_order.specs.Keeping.{sides}
-use Rattle.atom_order.specs.Reaching.{marked}
+use Rattle.atom_order.specs.Reaching.{marked_transactions}
 use Rattle.atom_order.specs.Marking.{HasMarks, has_key}
 use Rattle.atom_order.specs.Shapes.{Shape, into_in, IsUsable, IsMoved, IsLinking}
 use Rattle.atom_order.proofs.Changes.{added_at, links_up, moved_by_sides, long_by_sides}
@@ -46,7 +46,7 @@ returns-clause-ok c =
     subst (λ (s : Shape). IsLinking t links s new) e
     (links_up c.self.inside.dropped.items c.self.inside.is_open.items into t links keys new place live less there
     (subst IsUsable (sym e) c.requires.usable)
-    (subst (λ (s : Shape). HasMarks keys (marked (λ y. y == t) (into_in s) [] (drop place s.live))) (sym e) c.requires.marks)
+    (subst (λ (s : Shape). HasMarks keys (marked_transactions (λ y. y == t) (into_in s) [] (drop place s.live))) (sym e) c.requires.marks)
     c.requires.apart refl
     (c.rearrange.ensures.live ∙ ap (λ (l : List ℕ). take place live ++ l) are) refl
     (added_at into t c.index_mut-slot.result.now c.append.new.self links slot c.index_mut-slot.ensures.value c.in_ok-append.ensures.ok)
