@@ -18,7 +18,7 @@ use std::marker::Model;
 #[derive(Drop)]
 pub(crate) struct Texts {
     pool: Pool,
-    spelled: Vec<Option<TypedText>>,
+    typed_texts: Vec<Option<TypedText>>,
     /// The default for a text that isn't there.
     nothing: TypedText,
 }
@@ -26,14 +26,14 @@ pub(crate) struct Texts {
 impl Model for Texts {
     ghost use Rattle.std.specs.Prelude.{List, [], ◌≡◌, map};
     ghost use Rattle.jvms_file.specs.declared.class_file.Constant.{Constant};
-    ghost use Rattle.linker.specs.Spelled.{typed_text as spelled_text, typed_text_of};
+    ghost use Rattle.linker.specs.Spelled.{typed_text, typed_text_of};
 
     ghost Value = { List Constant };
 
     ghost view = { λ t. t.pool };
 
-    ghost invariant = { λ t. (t.spelled.items ≡ map typed_text_of t.pool)
-        × (t.nothing ≡ spelled_text []) };
+    ghost invariant = { λ t. (t.typed_texts.items ≡ map typed_text_of t.pool)
+        × (t.nothing ≡ typed_text []) };
 }
 
 /// Copies items to a new list.
@@ -59,10 +59,10 @@ impl Texts {
         ensures { IfOk result (λ texts. texts ≡ pool) }
     {
         let nothing = spelled_by_nothing(alloc)?;
-        let spelled = all_typed_texts(alloc, pool.entries().as_slice(), &nothing)?;
+        let typed_texts = all_typed_texts(alloc, pool.entries().as_slice(), &nothing)?;
         Ok(Texts {
             pool,
-            typed_text,
+            typed_texts,
             nothing,
         })
     }
@@ -82,7 +82,7 @@ impl Texts {
         if number == 0 {
             return None;
         }
-        at_place(&self.spelled, usize::from(number) - 1)
+        at_place(&self.typed_texts, usize::from(number) - 1)
     }
 
     /// Returns the text of a Utf8 entry with its types, or the empty text if the number is none's.
