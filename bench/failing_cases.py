@@ -60,30 +60,24 @@ def commands(folder):
     return {name: Case("jvmx", words, SCRIPT, folder) for name, words in words.items()}
 
 
-def case_of(crate, words=None):
-    """Returns a run of a crate's program on these words, else on those of the crate, in the folder of the crate's data."""
-    folder = CRATES / crate
-    script = folder / "stdin"
-    return Case(
-        crate,
-        words or (folder / "args").read_text().splitlines(),
-        script.read_text() if script.exists() else "",
-        folder / "data",
-    )
+def calls_of(part, words=None):
+    """Returns a run of `repeated_calls` on a part of the words that its crate has for it, else on these words."""
+    crate = CRATES / "repeated_calls"
+    parts = [part.splitlines() for part in (crate / "args").read_text().split("--\n")]
+    given = next(given for given in parts if given[0] == part)
+    return Case(crate.name, [part, *words] if words else given, (crate / "stdin").read_text(), crate / "data")
 
 
 def calls():
-    """Returns the runs of the programs that make calls of the library, each on a small input."""
+    """Returns the runs of the program that makes calls of the libraries, each on a small input."""
     lost_update = ["LostUpdate", "LostUpdate.class"]
     return {
-        "reading": case_of("repeated_reading"),
-        "turns, exceptions": case_of("repeated_turns"),
-        "turns, a cycle": case_of("repeated_turns", ["atomic LostUpdate.inc", *lost_update]),
-        "turns, atomic": case_of("repeated_turns", ["plain *", *lost_update]),
-        "judgement": case_of("repeated_judgements"),
-        "session": case_of("repeated_sessions"),
-        "campaign of 4 jobs, 1 worker": case_of("repeated_campaigns"),
-        "campaign of 2 jobs, 2 workers": case_of(
-            "repeated_campaigns", ["2", "2", "atomic LostUpdate.inc", *lost_update]
-        ),
+        "reading": calls_of("reading"),
+        "turns, exceptions": calls_of("turns"),
+        "turns, a cycle": calls_of("turns", ["atomic LostUpdate.inc", *lost_update]),
+        "turns, atomic": calls_of("turns", ["plain *", *lost_update]),
+        "judgement": calls_of("judgements"),
+        "session": calls_of("sessions"),
+        "campaign of 4 jobs, 1 worker": calls_of("campaigns"),
+        "campaign of 2 jobs, 2 workers": calls_of("campaigns", ["2", "2", "atomic LostUpdate.inc", *lost_update]),
     }

@@ -3,15 +3,14 @@
 needs no more.
 
     bench/failing_memory.py [--jvmx PROGRAM] [NAME...]              commands of jvmx
-    bench/failing_memory.py --calls [--programs FOLDER] [NAME...]   calls that are made once more if they are refused
+    bench/failing_memory.py --calls [--repeated PROGRAM] [NAME...]  calls that are made once more if they are refused
 
 A command of jvmx must end as with ample memory, or be refused in one line that ends in `Memory`, with status 3, and with
 nothing on standard output that the other run doesn't begin with. A refused campaign may also end in
 `jvmx: G05 WorkerFailed`, and writes nothing to standard output.
 
-The calls are made by the programs `repeated_reading`, `repeated_turns`, `repeated_judgements`, `repeated_sessions` and
-`repeated_campaigns`. Each run must print to standard output what it prints with ample memory, with status 0. Standard error
-names the call that was refused, if one was.
+The calls are made by the program `repeated_calls`. Each run must print to standard output what it prints with ample memory,
+with status 0. Standard error names the call that was refused, if one was.
 
 A small library in C, built by the kit's clang and loaded in front of the system's, refuses the allocation and counts all
 of them. The dynamic loader's own may be refused too. A thread's start allocates by calloc, which isn't refused. A campaign
@@ -170,7 +169,7 @@ def program_of(words, crate):
     """Returns the program of a crate: the one that the words name, else the one of this checkout."""
     if crate == "jvmx":
         return Path(words.jvmx or launcher.program_to_run()).resolve()
-    program = Path(words.programs).resolve() / crate if words.programs else ROOT / "crates" / crate / "out" / crate
+    program = Path(words.repeated or ROOT / "crates" / crate / "out" / crate).resolve()
     if not program.exists():
         sys.exit(f"there is no {program}: rt ci builds it, or ./launcher.py --quick {crate} FILE")
     return program
@@ -181,7 +180,7 @@ def main():
     parser = argparse.ArgumentParser(description=__doc__.split("\n\n")[0])
     parser.add_argument("--jvmx", metavar="PROGRAM", help="the program itself, and not the script that finds it")
     parser.add_argument("--calls", action="store_true", help="calls in place of commands of jvmx")
-    parser.add_argument("--programs", metavar="FOLDER", help="has the programs that make calls; else those that rt ci left")
+    parser.add_argument("--repeated", metavar="PROGRAM", help="the program that makes calls; else the one that rt ci left")
     parser.add_argument("--jobs", type=int, default=os.cpu_count(), help="how many runs go side by side")
     parser.add_argument("names", nargs="*", metavar="NAME", help="these cases, as they are printed; else all")
     words = parser.parse_args()

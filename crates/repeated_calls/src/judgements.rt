@@ -1,30 +1,19 @@
-//! Judges a run under a seeded schedule, and repeats each call that is refused, above all `judge`. Prints what the
-//! threads did, how the run ended and the verdict. The arguments are a specification, the class of `main`, and class
-//! files.
-#![tactic(auto)]
+//! Judges a run under a seeded schedule by `judge`. Prints what the threads did, how the run ended and the verdict. The
+//! words are a specification, the class of `main`, and class files.
 
 mod judging;
 mod shown;
 
 use atom_spec::Spec;
 use machine::Entry;
-use refused::{again, units_of, words_of};
-use std::process::ExitCode;
+use refused::{again, units_of};
 
-/// Judges the run that the arguments name, and prints the judgement.
-fn perform(rt: &HostRuntime) -> Option<()> {
-    let words = words_of(rt)?;
-    let spec = words.first()?.as_str();
-    let spec = again!(rt, "Spec::read", Spec::read(rt.alloc(), spec))?;
-    let class = units_of(rt, words.get(1)?.as_str())?;
+/// Judges a run, and prints the judgement.
+pub(crate) fn perform(rt: &HostRuntime, words: &[String]) -> Option<()> {
+    let (spec, class) = (words.first()?, words.get(1)?);
+    let spec = again!(rt, "Spec::read", Spec::read(rt.alloc(), spec.as_str()))?;
+    let class = units_of(rt, class.as_str())?;
     let entry = Entry::Main { class };
-    let judged = judging::judged(rt, words.as_slice().get(2..)?, &entry, &spec)?;
+    let judged = judging::judged(rt, words.get(2..)?, &entry, &spec)?;
     shown::print(rt, &judged)
-}
-
-fn main(rt: HostRuntime) -> ExitCode {
-    match perform(&rt) {
-        Some(()) => ExitCode::SUCCESS,
-        None => ExitCode::from(3),
-    }
 }

@@ -1,5 +1,5 @@
-//! Runs a program turn by turn, judges its trace, and repeats each call that is refused. The arguments are a
-//! specification, the class of `main`, and class files.
+//! Runs a program turn by turn, and judges its trace. The words are a specification, the class of `main`, and class
+//! files.
 //!
 //! | Calls | Output |
 //! |---|---|
@@ -8,20 +8,18 @@
 //!
 //! `data/Nested.class` is assembled from `data/Nested.j`, and `data/LostUpdate.class` from
 //! `examples/threads/LostUpdate.j`.
-#![tactic(auto)]
 
 mod feeding;
 mod running;
 
 use atom_spec::Spec;
-use refused::{again, linked, units_of, words_of};
-use std::process::ExitCode;
+use refused::{again, linked, units_of};
 use trace::Trace;
 
 /// Runs the `main` of a class, prints what it did, and returns its trace.
 fn trace_of(rt: &HostRuntime, class: &str, files: &[String]) -> Option<Trace> {
-    let program = linked(rt, files)?;
     let class = units_of(rt, class)?;
+    let program = linked(rt, files)?;
     let trace = running::run(rt, &program, class);
     drop(program);
     trace
@@ -33,17 +31,9 @@ fn judge(rt: &HostRuntime, spec: &str, trace: &Trace) -> Option<()> {
     feeding::judge(rt, &spec, trace)
 }
 
-/// Runs and judges what the arguments name.
-fn perform(rt: &HostRuntime) -> Option<()> {
-    let words = words_of(rt)?;
+/// Runs a program, and judges its trace.
+pub(crate) fn perform(rt: &HostRuntime, words: &[String]) -> Option<()> {
     let (spec, class) = (words.first()?, words.get(1)?);
-    let trace = trace_of(rt, class.as_str(), words.as_slice().get(2..)?)?;
+    let trace = trace_of(rt, class.as_str(), words.get(2..)?)?;
     judge(rt, spec.as_str(), &trace)
-}
-
-fn main(rt: HostRuntime) -> ExitCode {
-    match perform(&rt) {
-        Some(()) => ExitCode::SUCCESS,
-        None => ExitCode::from(3),
-    }
 }

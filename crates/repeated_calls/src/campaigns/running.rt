@@ -3,9 +3,9 @@
 ghost use Rattle.std.specs.Prelude.{IsTrue};
 ghost use Rattle.campaign_jobs.specs.Plans.{fits};
 
-use crate::book::judge;
-use crate::gate::HoldsFirst;
-use crate::plans::plan_of;
+use super::book::judge;
+use super::gate::HoldsFirst;
+use super::plans::plan_of;
 use campaign::{Halted, Plan, Table, run_campaign};
 use campaign_text::table_text;
 use program::Program;

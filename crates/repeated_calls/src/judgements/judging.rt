@@ -1,24 +1,14 @@
 //! Judges a run.
 
+use crate::limits::{LIMITS, MOST_TURNS};
 use atom_spec::Spec;
 use inputs::Input;
 use judge::{JudgeFault, Judged, judge};
-use machine::{Entry, Limits};
+use machine::Entry;
 use refused::{again, bytes_of};
 use schedule::Chooser;
 use std::alloc::Global;
 use turn_limit::TurnLimit;
-
-/// The limits of the run.
-const LIMITS: Limits = Limits {
-    objects: 1_000,
-    elements: 1_000,
-    threads: 16,
-    frames: 64,
-};
-
-/// The maximum number of turns of the run.
-const MOST_TURNS: u64 = 400;
 
 /// The state and the stream of the schedule's random words.
 const SEED: (u64, u64) = (1, 2);

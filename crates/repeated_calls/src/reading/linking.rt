@@ -1,6 +1,6 @@
 //! Links the program of FILEs.
 
-use crate::class::class_in;
+use super::class::class_in;
 use escapes::put_name;
 use linker::{ClassFile, Program, link};
 use refused::again;

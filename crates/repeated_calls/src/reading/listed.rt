@@ -1,6 +1,6 @@
 //! Prints listings of classes, and their bytes.
 
-use crate::class::class_in;
+use super::class::class_in;
 use class_file::{ClassFile, write};
 use listing::list;
 use refused::again;

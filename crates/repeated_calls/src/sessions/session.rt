@@ -1,20 +1,13 @@
 //! A session of gcd(48, 36).
 
-use crate::answers::answer_all;
+use super::answers::answer_all;
+use crate::limits::LIMITS;
 use debugger::Session;
-use machine::{Argument, Entry, Limits, MachineFault};
+use machine::{Argument, Entry, MachineFault};
 use program::Program;
 use refused::{again, units_of};
 use shared_data::items::Items;
 use std::alloc::Global;
-
-/// The limits of the session.
-const LIMITS: Limits = Limits {
-    objects: 1_000,
-    elements: 1_000,
-    threads: 16,
-    frames: 64,
-};
 
 /// The number of turns of the run.
 const TURNS: usize = 25;

@@ -33,10 +33,17 @@ fn print_serial(rt: &HostRuntime, checker: &Checker) -> Option<()> {
     println!(rt; "{order:?}").ok()
 }
 
-/// Feeds a checker the items of a trace, and prints its verdict and a serial order.
+/// Feeds a checker all items of a trace, and prints its verdict and a serial order.
+fn judge_by(rt: &HostRuntime, checker: &mut Checker, trace: &Trace) -> Option<()> {
+    feed_all(rt, checker, trace)?;
+    print_verdict(rt, checker)?;
+    print_serial(rt, checker)
+}
+
+/// Makes a checker, feeds it the items of a trace, and prints its verdict and a serial order.
 pub(crate) fn judge(rt: &HostRuntime, spec: &Spec, trace: &Trace) -> Option<()> {
     let mut checker = again!(rt, "Checker::new", checker_of(rt.alloc(), spec))?;
-    feed_all(rt, &mut checker, trace)?;
-    print_verdict(rt, &checker)?;
-    print_serial(rt, &checker)
+    let judged = judge_by(rt, &mut checker, trace);
+    drop(checker);
+    judged
 }

@@ -1,19 +1,12 @@
 //! Takes the turns of a machine, one by one.
 
-use machine::{Entry, Limits, Machine, ThreadId, is_enabled};
+use crate::limits::LIMITS;
+use machine::{Entry, Machine, ThreadId, is_enabled};
 use machine_text::{output_text, threads_text};
 use program::Program;
 use refused::again;
 use shared_data::items::Items;
 use trace::Trace;
-
-/// The limits of the run.
-const LIMITS: Limits = Limits {
-    objects: 1_000,
-    elements: 1_000,
-    threads: 16,
-    frames: 64,
-};
 
 /// The maximum number of rounds of a run. In a round each thread takes a turn.
 const MOST_ROUNDS: u64 = 400;
