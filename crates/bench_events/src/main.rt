@@ -95,12 +95,16 @@ fn feed_rounds(checker: &mut Checker, round: &Trace, events: u64) -> Option<()> 
     Some(())
 }
 
-/// Returns a checker that was fed rounds of a shape until it has `events` events.
-fn fed(alloc: Global, shape: &str, threads: u32, events: u64) -> Option<Checker> {
-    let (opening, round) = traces_of(alloc, shape, threads)?;
+/// Feeds the items before all rounds, and then rounds.
+fn feed_all(checker: &mut Checker, opening: &Trace, round: &Trace, events: u64) -> Option<()> {
+    feed(checker, opening)?;
+    feed_rounds(checker, round, events)
+}
+
+/// Returns a checker that was fed these items, the rounds until it has `events` events.
+fn fed(alloc: Global, opening: &Trace, round: &Trace, events: u64) -> Option<Checker> {
     let mut checker = checker_of_all(alloc)?;
-    feed(&mut checker, &opening)?;
-    feed_rounds(&mut checker, &round, events)?;
+    feed_all(&mut checker, opening, round, events)?;
     Some(checker)
 }
 
@@ -122,14 +126,27 @@ fn print(rt: &HostRuntime, checker: &Checker) -> io::Result<()> {
     )
 }
 
-fn main(rt: HostRuntime) -> io::Result<ExitCode> {
-    let words: Vec<String> = env::args(&rt)?.skip(1).collect(rt.alloc())?;
+/// Feeds a checker, and prints what it says. Returns `None` if memory ran out.
+fn measure(rt: &HostRuntime, shape: &str, threads: u32, events: u64) -> Option<io::Result<()>> {
+    let (opening, round) = traces_of(rt.alloc(), shape, threads)?;
+    let checker = fed(rt.alloc(), &opening, &round, events)?;
+    let printed = print(rt, &checker);
+    drop(checker);
+    Some(printed)
+}
+
+/// Measures what the words name, and returns the exit status.
+fn perform(rt: &HostRuntime, words: &[String]) -> io::Result<ExitCode> {
     let shape = words.first().map_or(SHAPE, |word| word.as_str());
     let threads = number_of(words.get(1), u64::from(THREADS)).min(u64::from(MOST_THREADS)) as u32;
     let events = number_of(words.get(2), EVENTS);
-    let Some(checker) = fed(rt.alloc(), shape, threads, events) else {
-        return Ok(ExitCode::from(3));
-    };
-    print(&rt, &checker)?;
-    Ok(ExitCode::SUCCESS)
+    match measure(rt, shape, threads, events) {
+        Some(printed) => printed.map(|()| ExitCode::SUCCESS),
+        None => Ok(ExitCode::from(3)),
+    }
+}
+
+fn main(rt: HostRuntime) -> io::Result<ExitCode> {
+    let words: Vec<String> = env::args(&rt)?.skip(1).collect(rt.alloc())?;
+    perform(&rt, words.as_slice())
 }

@@ -55,14 +55,18 @@ pub(crate) fn campaign_words<'a>(
     let spec = matches.get_str(SPECIFICATION).ok_or(WordsFault::Words)?;
     let jobs = matches.get_str(JOBS).ok_or(WordsFault::Words)?;
     let jobs = natural_of(jobs).ok_or(WordsFault::Words)?;
+    let first = first_of(matches, jobs)?;
+    let seed = number_or(matches, SEED, DEFAULT_SEED)?;
+    let workers = number_or(matches, WORKERS, DEFAULT_WORKERS)?;
+    let most = most_of(matches)?;
     Ok(CampaignWords {
         program: program_words(alloc, matches)?,
         spec,
         jobs,
-        first: first_of(matches, jobs)?,
-        seed: number_or(matches, SEED, DEFAULT_SEED)?,
-        workers: number_or(matches, WORKERS, DEFAULT_WORKERS)?,
-        most: most_of(matches)?,
+        first,
+        seed,
+        workers,
+        most,
         most_text: matches.get_str(MOST),
         stop: matches.get_flag(STOP),
         summary: matches.get_flag(SUMMARY),

@@ -56,6 +56,15 @@ pub enum Command<'a> {
     Version,
 }
 
+/// A text that words ask for.
+#[derive(Clone, Copy)]
+enum AskedText {
+    /// How the program or one command is used, or the meaning of a refusal's code.
+    Help(&'static str),
+    /// The version of the program.
+    Version,
+}
+
 /// The words of `run`, of `trace` and of `debug`.
 #[derive(Debug, Drop)]
 pub struct RunWords<'a> {
@@ -132,10 +141,11 @@ fn eval_command<'a>(alloc: Global, matches: &ArgMatches<'a>) -> Result<Command<'
 
 /// Returns the words that are common to the commands that run a program.
 fn run_words<'a>(alloc: Global, matches: &ArgMatches<'a>) -> Result<RunWords<'a>, WordsFault> {
+    let most = most_of(matches)?;
     Ok(RunWords {
         program: program_words(alloc, matches)?,
         schedule: matches.get_str(SCHEDULE).unwrap_or(DEFAULT_SCHEDULE),
-        most: most_of(matches)?,
+        most,
         spec: None,
         explains: false,
         choices: false,
@@ -212,47 +222,47 @@ fn asks_help(word: &str) -> bool {
 }
 
 /// Returns the help of a command, or `None` if no command has this name.
-fn usage_of(command: &str) -> Option<Command<'static>> {
+fn usage_of(command: &str) -> Option<AskedText> {
     match command {
-        "eval" => Some(Command::Help(EVAL_HELP)),
-        "run" => Some(Command::Help(RUN_HELP)),
-        "trace" => Some(Command::Help(TRACE_HELP)),
-        "debug" => Some(Command::Help(DEBUG_HELP)),
-        "campaign" => Some(Command::Help(CAMPAIGN_HELP)),
-        "check" => Some(Command::Help(CHECK_HELP)),
-        "picture" => Some(Command::Help(PICTURE_HELP)),
-        "asm" => Some(Command::Help(ASM_HELP)),
-        "list" => Some(Command::Help(LIST_HELP)),
-        "tables" => Some(Command::Help(TABLES_HELP)),
-        "needs" => Some(Command::Help(NEEDS_HELP)),
+        "eval" => Some(AskedText::Help(EVAL_HELP)),
+        "run" => Some(AskedText::Help(RUN_HELP)),
+        "trace" => Some(AskedText::Help(TRACE_HELP)),
+        "debug" => Some(AskedText::Help(DEBUG_HELP)),
+        "campaign" => Some(AskedText::Help(CAMPAIGN_HELP)),
+        "check" => Some(AskedText::Help(CHECK_HELP)),
+        "picture" => Some(AskedText::Help(PICTURE_HELP)),
+        "asm" => Some(AskedText::Help(ASM_HELP)),
+        "list" => Some(AskedText::Help(LIST_HELP)),
+        "tables" => Some(AskedText::Help(TABLES_HELP)),
+        "needs" => Some(AskedText::Help(NEEDS_HELP)),
         _ => None,
     }
 }
 
 /// Returns what `help` prints about a word: the help of a command, or the meaning of a refusal's code.
-fn help_of(word: &str) -> Option<Command<'static>> {
+fn help_of(word: &str) -> Option<AskedText> {
     match usage_of(word) {
         Some(usage) => Some(usage),
         None => match explanation_of(word) {
-            Some(explanation) => Some(Command::Help(explanation)),
+            Some(explanation) => Some(AskedText::Help(explanation)),
             None => None,
         },
     }
 }
 
-/// Returns the command of one word, if it asks for a text.
-fn text_of(word: &str) -> Option<Command<'static>> {
+/// Returns the text that one word asks for, if it does.
+fn text_of(word: &str) -> Option<AskedText> {
     if word == "help" || asks_help(word) {
-        Some(Command::Help(HELP))
+        Some(AskedText::Help(HELP))
     } else if word == "--version" || word == "-V" {
-        Some(Command::Version)
+        Some(AskedText::Version)
     } else {
         None
     }
 }
 
-/// Returns the command of words, if they ask for a text.
-fn text_command(words: &[String]) -> Option<Command<'static>> {
+/// Returns the text that words ask for, if they do.
+fn asked_text(words: &[String]) -> Option<AskedText> {
     match words {
         [word] => text_of(word.as_str()),
         [first, second] if first.as_str() == "help" => help_of(second.as_str()),
@@ -296,7 +306,7 @@ fn explained_words(words: &[String]) -> Option<&[String]> {
 
 /// Returns whether words ask for a text.
 pub(crate) fn is_text(words: &[String]) -> bool {
-    text_command(words).is_some() || explained_words(words).is_some()
+    asked_text(words).is_some() || explained_words(words).is_some()
 }
 
 /// Returns the command of words that don't ask for a text.
@@ -318,11 +328,10 @@ pub(crate) fn parsed<'a>(alloc: Global, words: &'a [String]) -> Result<Command<'
 /// and a main class in `eval` or with arguments. The last are an OUT of `asm` that is IN, and a job of `campaign` that
 /// is out of range. The schedule isn't read here.
 pub fn command_of<'a>(alloc: Global, words: &'a [String]) -> Result<Command<'a>, WordsFault> {
-    if let Some(command) = text_command(words) {
-        return Ok(command);
-    }
-    match explained_words(words) {
-        Some(words) => Ok(Command::Explain(words_text(alloc, words)?)),
-        None => parsed(alloc, words),
+    match (asked_text(words), explained_words(words)) {
+        (Some(AskedText::Help(text)), _) => Ok(Command::Help(text)),
+        (Some(AskedText::Version), _) => Ok(Command::Version),
+        (None, Some(words)) => Ok(Command::Explain(words_text(alloc, words)?)),
+        (None, None) => parsed(alloc, words),
     }
 }

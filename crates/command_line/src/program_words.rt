@@ -67,12 +67,13 @@ pub(crate) fn program_words<'a>(
     matches: &ArgMatches<'a>,
 ) -> Result<ProgramWords<'a>, WordsFault> {
     let entry = matches.get_str(ENTRY).ok_or(WordsFault::Words)?;
+    let files = files_of(alloc, matches)?;
     Ok(ProgramWords {
         entry: entry_of(alloc, entry, matches)?,
         names: ProgramNames {
             entry,
             arguments: matches.get_str(ARGUMENTS),
-            files: files_of(alloc, matches)?,
+            files,
         },
     })
 }

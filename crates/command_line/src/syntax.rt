@@ -3,6 +3,12 @@
 use clap::{Arg, ArgAction, Command};
 use std::alloc::{AllocError, Global};
 
+/// The names of the commands.
+const COMMANDS: [&str; 11] = [
+    "eval", "run", "trace", "debug", "campaign", "check", "picture", "asm", "list", "tables",
+    "needs",
+];
+
 /// The option `--entry`.
 pub(crate) const ENTRY: &str = "entry";
 
@@ -90,27 +96,31 @@ fn files<'a>(alloc: Global) -> Arg<'a> {
         .action(ArgAction::Append)
 }
 
+/// Returns the argument of one file.
+fn file<'a>(alloc: Global, name: &'a str) -> Arg<'a> {
+    Arg::new(alloc, name).required(true).action(ArgAction::Set)
+}
+
 /// Returns the syntax `NAME --entry E [--args N,N] FILE...`.
 fn program_syntax<'a>(alloc: Global, name: &'a str) -> Result<Command<'a>, AllocError> {
-    let entry = option(alloc, ENTRY).required(true);
-    bare(alloc, name)
-        .arg(entry)?
-        .arg(option(alloc, ARGUMENTS))?
-        .arg(files(alloc))
+    let arguments = vec![in alloc;
+        option(alloc, ENTRY).required(true),
+        option(alloc, ARGUMENTS),
+        files(alloc),
+    ]?;
+    bare(alloc, name).args(arguments)
 }
 
 /// Returns the syntax `NAME --entry E [--args N,N] [--sched S] [--max N] FILE...`.
 fn scheduled_syntax<'a>(alloc: Global, name: &'a str) -> Result<Command<'a>, AllocError> {
-    program_syntax(alloc, name)?
-        .arg(option(alloc, SCHEDULE))?
-        .arg(option(alloc, MOST))
+    let arguments = vec![in alloc; option(alloc, SCHEDULE), option(alloc, MOST)]?;
+    program_syntax(alloc, name)?.args(arguments)
 }
 
 /// Returns the syntax `run --entry E [--args N,N] [--sched S] [--max N] [--spec F] [--explain] FILE...`.
 fn run_syntax<'a>(alloc: Global) -> Result<Command<'a>, AllocError> {
-    scheduled_syntax(alloc, "run")?
-        .arg(option(alloc, SPECIFICATION))?
-        .arg(flag(alloc, EXPLAIN))
+    let arguments = vec![in alloc; option(alloc, SPECIFICATION), flag(alloc, EXPLAIN)]?;
+    scheduled_syntax(alloc, "run")?.args(arguments)
 }
 
 /// Returns the syntax `trace --entry E [--args N,N] [--sched S] [--max N] [--choices] FILE...`.
@@ -121,46 +131,44 @@ fn trace_syntax<'a>(alloc: Global) -> Result<Command<'a>, AllocError> {
 /// Returns the syntax `campaign --entry E [--args N,N] --spec F --jobs N [--first K] [--seed N] [--workers N] [--max N]
 /// [--stop] [--summary] FILE...`.
 fn campaign_syntax<'a>(alloc: Global) -> Result<Command<'a>, AllocError> {
-    program_syntax(alloc, "campaign")?
-        .arg(option(alloc, SPECIFICATION).required(true))?
-        .arg(option(alloc, JOBS).required(true))?
-        .arg(option(alloc, FIRST))?
-        .arg(option(alloc, SEED))?
-        .arg(option(alloc, WORKERS))?
-        .arg(option(alloc, MOST))?
-        .arg(flag(alloc, STOP))?
-        .arg(flag(alloc, SUMMARY))
+    let arguments = vec![in alloc;
+        option(alloc, SPECIFICATION).required(true),
+        option(alloc, JOBS).required(true),
+        option(alloc, FIRST),
+        option(alloc, SEED),
+        option(alloc, WORKERS),
+        option(alloc, MOST),
+        flag(alloc, STOP),
+        flag(alloc, SUMMARY),
+    ]?;
+    program_syntax(alloc, "campaign")?.args(arguments)
 }
 
 /// Returns the syntax `check --spec F [--serial] [--explain] TRACE`.
 fn check_syntax<'a>(alloc: Global) -> Result<Command<'a>, AllocError> {
-    let specification = option(alloc, SPECIFICATION).required(true);
-    bare(alloc, "check")
-        .arg(specification)?
-        .arg(flag(alloc, SERIAL))?
-        .arg(flag(alloc, EXPLAIN))?
-        .arg(file(alloc, TRACE))
+    let arguments = vec![in alloc;
+        option(alloc, SPECIFICATION).required(true),
+        flag(alloc, SERIAL),
+        flag(alloc, EXPLAIN),
+        file(alloc, TRACE),
+    ]?;
+    bare(alloc, "check").args(arguments)
 }
 
 /// Returns the syntax `picture --spec F [--dot] TRACE`.
 fn picture_syntax<'a>(alloc: Global) -> Result<Command<'a>, AllocError> {
-    let specification = option(alloc, SPECIFICATION).required(true);
-    bare(alloc, "picture")
-        .arg(specification)?
-        .arg(flag(alloc, DOT))?
-        .arg(file(alloc, TRACE))
-}
-
-/// Returns the argument of one file.
-fn file<'a>(alloc: Global, name: &'a str) -> Arg<'a> {
-    Arg::new(alloc, name).required(true).action(ArgAction::Set)
+    let arguments = vec![in alloc;
+        option(alloc, SPECIFICATION).required(true),
+        flag(alloc, DOT),
+        file(alloc, TRACE),
+    ]?;
+    bare(alloc, "picture").args(arguments)
 }
 
 /// Returns the syntax `asm IN OUT`.
 fn asm_syntax<'a>(alloc: Global) -> Result<Command<'a>, AllocError> {
-    bare(alloc, "asm")
-        .arg(file(alloc, INPUT))?
-        .arg(file(alloc, OUTPUT))
+    let arguments = vec![in alloc; file(alloc, INPUT), file(alloc, OUTPUT)]?;
+    bare(alloc, "asm").args(arguments)
 }
 
 /// Returns the syntax `list FILE`.
@@ -175,9 +183,26 @@ fn tables_syntax<'a>(alloc: Global) -> Result<Command<'a>, AllocError> {
 
 /// Returns the syntax `needs [--spec F] FILE...`.
 fn needs_syntax<'a>(alloc: Global) -> Result<Command<'a>, AllocError> {
-    bare(alloc, "needs")
-        .arg(option(alloc, SPECIFICATION))?
-        .arg(files(alloc))
+    let arguments = vec![in alloc; option(alloc, SPECIFICATION), files(alloc)]?;
+    bare(alloc, "needs").args(arguments)
+}
+
+/// Returns the syntax of a command.
+fn syntax_of<'a>(alloc: Global, command: &'a str) -> Result<Command<'a>, AllocError> {
+    match command {
+        "eval" => program_syntax(alloc, command),
+        "run" => run_syntax(alloc),
+        "trace" => trace_syntax(alloc),
+        "debug" => scheduled_syntax(alloc, command),
+        "campaign" => campaign_syntax(alloc),
+        "check" => check_syntax(alloc),
+        "picture" => picture_syntax(alloc),
+        "asm" => asm_syntax(alloc),
+        "list" => list_syntax(alloc),
+        "tables" => tables_syntax(alloc),
+        "needs" => needs_syntax(alloc),
+        _ => Ok(bare(alloc, command)),
+    }
 }
 
 /// Adds a command to others, unless memory ran out for it.
@@ -194,27 +219,11 @@ fn with<'a>(
     }
 }
 
-/// Adds the commands that run a program.
-fn with_runs<'a>(alloc: Global, commands: Command<'a>) -> Result<Command<'a>, AllocError> {
-    let commands = with(commands, program_syntax(alloc, "eval"))?;
-    let commands = with(commands, run_syntax(alloc))?;
-    let commands = with(commands, trace_syntax(alloc))?;
-    let commands = with(commands, scheduled_syntax(alloc, "debug"))?;
-    with(commands, campaign_syntax(alloc))
-}
-
-/// Adds the commands that read or write other texts.
-fn with_texts<'a>(alloc: Global, commands: Command<'a>) -> Result<Command<'a>, AllocError> {
-    let commands = with(commands, check_syntax(alloc))?;
-    let commands = with(commands, picture_syntax(alloc))?;
-    let commands = with(commands, asm_syntax(alloc))?;
-    let commands = with(commands, list_syntax(alloc))?;
-    let commands = with(commands, tables_syntax(alloc))?;
-    with(commands, needs_syntax(alloc))
-}
-
 /// Returns the syntax of all commands.
 pub(crate) fn syntax<'a>(alloc: Global) -> Result<Command<'a>, AllocError> {
-    let commands = with_runs(alloc, bare(alloc, "jvmx"))?;
-    with_texts(alloc, commands)
+    let mut commands = bare(alloc, "jvmx");
+    for command in COMMANDS {
+        commands = with(commands, syntax_of(alloc, command))?;
+    }
+    Ok(commands)
 }

@@ -51,33 +51,60 @@ fn lines_that_spell_no_command_are_refused(rt: HostRuntime) -> Result<(), Fail> 
     Ok(())
 }
 
+/// What a line spells. Names are left out.
+#[derive(Clone, Copy, Debug, PartialEq)]
+enum Spelled {
+    Step(u32),
+    Goto(u32),
+    ReverseContinue,
+    Class { is_name: bool },
+    Break { is_method: bool, instruction: u32 },
+    Other,
+}
+
+/// Returns what a command is, without its names.
+fn without_names(command: &Command) -> Spelled {
+    match command {
+        Command::Step(count) => Spelled::Step(*count),
+        Command::Goto(position) => Spelled::Goto(*position),
+        Command::ReverseContinue => Spelled::ReverseContinue,
+        Command::Class(name) => Spelled::Class {
+            is_name: name.is_some(),
+        },
+        Command::Break(place) => Spelled::Break {
+            is_method: place.method.is_some(),
+            instruction: place.instruction,
+        },
+        _ => Spelled::Other,
+    }
+}
+
+/// Returns what a line spells, if it is a command.
+fn spelled_by(alloc: Global, line: &[u8]) -> Option<Spelled> {
+    let command = Command::parse(alloc, line).ok()?;
+    let spelled = without_names(&command);
+    drop(command);
+    Some(spelled)
+}
+
 #[test]
 fn lines_spell_commands(rt: HostRuntime) -> Result<(), Fail> {
-    let alloc = rt.alloc();
-    assert!(rt;
-        matches!(
-            Command::parse(alloc, b"step 4294967295")?,
-            Command::Step(4_294_967_295)
-        )
-    );
-    assert!(rt; matches!(Command::parse(alloc, b"goto 007")?, Command::Goto(7)));
-    assert!(rt;
-        matches!(
-            Command::parse(alloc, b"rcontinue")?,
-            Command::ReverseContinue
-        )
-    );
-    assert!(rt; matches!(Command::parse(alloc, b"class ")?, Command::Class(None)));
-    assert!(rt; matches!(Command::parse(alloc, b"class G")?, Command::Class(Some(_))));
-    let spelled = Command::parse(alloc, b"break G.gcd.(II)I 11")?;
-    assert!(rt;
-        matches!(
-            spelled,
-            Command::Break(Place {
-                method: Some(_),
-                instruction: 11
-            })
-        )
-    );
+    let lines: [(&[u8], Spelled); 6] = [
+        (b"step 4294967295", Spelled::Step(4_294_967_295)),
+        (b"goto 007", Spelled::Goto(7)),
+        (b"rcontinue", Spelled::ReverseContinue),
+        (b"class ", Spelled::Class { is_name: false }),
+        (b"class G", Spelled::Class { is_name: true }),
+        (
+            b"break G.gcd.(II)I 11",
+            Spelled::Break {
+                is_method: true,
+                instruction: 11,
+            },
+        ),
+    ];
+    for (line, wanted) in lines {
+        assert_eq!(rt; spelled_by(rt.alloc(), line), Some(wanted));
+    }
     Ok(())
 }
