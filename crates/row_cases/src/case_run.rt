@@ -46,6 +46,11 @@ impl CaseRun {
         let line = format!(in self.alloc; "{t} {}", outcome.as_str())?;
         self.turns.put(line.as_str())?;
         self.outcomes.put(line.as_str())?;
+        self.put_items(before)
+    }
+
+    /// Records the items of the trace from a place on.
+    fn put_items(&mut self, before: usize) -> Result<(), AllocError> {
         for item in self.trace.items().iter().skip(before) {
             let mut line = String::new(self.alloc);
             put_line(&mut line, item)?;
@@ -62,6 +67,40 @@ impl CaseRun {
         self.items.close()
     }
 
+    /// Takes turns of thread 0 while it is enabled, and closes all lines.
+    fn take_own_turns(&mut self, machine: &mut Machine<'_>) -> Result<(), AllocError> {
+        for _ in 0..MOST_TURNS {
+            if !is_enabled(machine.peek(0)) {
+                break;
+            }
+            self.take(machine, 0)?;
+        }
+        self.close()
+    }
+
+    /// Takes the turns of these choices, and closes all lines.
+    fn take_choices(
+        &mut self,
+        machine: &mut Machine<'_>,
+        choices: &[ThreadId],
+    ) -> Result<(), AllocError> {
+        for t in choices {
+            self.take(machine, *t)?;
+        }
+        self.close()
+    }
+
+    /// Returns the results, unless memory ran out.
+    pub fn unless_failed(self, taken: Result<(), AllocError>) -> Result<CaseRun, AllocError> {
+        match taken {
+            Ok(()) => Ok(self),
+            Err(error) => {
+                drop(self);
+                Err(error)
+            }
+        }
+    }
+
     /// Takes turns of thread 0 while it is enabled, and returns their results.
     ///
     /// # Errors
@@ -69,14 +108,8 @@ impl CaseRun {
     /// Returns `AllocError` if memory ran out.
     pub fn of_own_turns(alloc: Global, machine: &mut Machine<'_>) -> Result<CaseRun, AllocError> {
         let mut case_run = CaseRun::new(alloc);
-        for _ in 0..MOST_TURNS {
-            if !is_enabled(machine.peek(0)) {
-                break;
-            }
-            case_run.take(machine, 0)?;
-        }
-        case_run.close()?;
-        Ok(case_run)
+        let taken = case_run.take_own_turns(machine);
+        case_run.unless_failed(taken)
     }
 
     /// Takes the turns of these choices, and returns their results.
@@ -90,11 +123,8 @@ impl CaseRun {
         choices: &[ThreadId],
     ) -> Result<CaseRun, AllocError> {
         let mut case_run = CaseRun::new(alloc);
-        for t in choices {
-            case_run.take(machine, *t)?;
-        }
-        case_run.close()?;
-        Ok(case_run)
+        let taken = case_run.take_choices(machine, choices);
+        case_run.unless_failed(taken)
     }
 
     /// Returns the lines that a section of this kind has to have, if it is about turns.

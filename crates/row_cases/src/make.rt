@@ -34,7 +34,9 @@ fn class_of(alloc: Global, text: &str) -> Result<ClassFile, Stop> {
         Ok(source) => source,
         Err(fault) => return Err(refused(alloc, &fault)),
     };
-    match assemble(alloc, &source) {
+    let assembled = assemble(alloc, &source);
+    drop(source);
+    match assembled {
         Ok(class) => Ok(class.into_class()),
         Err(fault) => Err(refused(alloc, &fault)),
     }

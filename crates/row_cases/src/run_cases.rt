@@ -94,7 +94,9 @@ fn new_machine<'p>(
     program: &'p Program,
 ) -> Result<Machine<'p>, Stop> {
     let entry = setting::entry(alloc, case)?;
-    match Machine::new(alloc, program, setting::limits(case), &entry) {
+    let made = Machine::new(alloc, program, setting::limits(case), &entry);
+    drop(entry);
+    match made {
         Ok(machine) => Ok(machine),
         Err(fault) => Err(refused(alloc, &fault)),
     }
@@ -115,18 +117,28 @@ fn case_run_of(
     }
 }
 
-/// Takes a case's turns, and appends the differences of the turns and of the machine after them from the wanted
-/// results.
+/// Appends the differences of a case's turns, and of the machine after them, from the wanted results.
+fn compare_all(
+    alloc: Global,
+    case: &Case<'_>,
+    machine: &Machine<'_>,
+    case_run: &CaseRun,
+    out: &mut String,
+) -> Result<(), AllocError> {
+    compare_case_run(case, case_run, out)?;
+    compare_machine(alloc, case, machine, case_run, out)
+}
+
+/// Takes a case's turns, and appends the differences from the wanted results.
 fn take_case_run(
     alloc: Global,
     case: &Case<'_>,
     machine: &mut Machine<'_>,
     out: &mut String,
-) -> Result<CaseRun, Stop> {
+) -> Result<CaseRun, AllocError> {
     let case_run = case_run_of(alloc, case, machine)?;
-    compare_case_run(case, &case_run, out)?;
-    compare_machine(alloc, case, machine, &case_run, out)?;
-    Ok(case_run)
+    let compared = compare_all(alloc, case, machine, &case_run, out);
+    case_run.unless_failed(compared)
 }
 
 /// Runs a case turn by turn, and appends the differences from its wanted results.
@@ -137,7 +149,9 @@ fn put_case_run(
     out: &mut String,
 ) -> Result<CaseRun, Stop> {
     let mut machine = new_machine(alloc, case, program)?;
-    take_case_run(alloc, case, &mut machine, out)
+    let taken = take_case_run(alloc, case, &mut machine, out);
+    drop(machine);
+    Ok(taken?)
 }
 
 /// Decides whether the same choices in one run have the same results.
@@ -149,6 +163,7 @@ fn is_one_run(
 ) -> Result<bool, Stop> {
     let mut machine = new_machine(alloc, case, program)?;
     let is_same = case_run.is_of_one_run(&mut machine);
+    drop(machine);
     Ok(is_same)
 }
 
@@ -174,7 +189,9 @@ fn put_case_runs(
     out: &mut String,
 ) -> Result<(), Stop> {
     let case_run = put_case_run(alloc, program, case, out)?;
-    put_run(alloc, program, case, &case_run, out)
+    let put = put_run(alloc, program, case, &case_run, out);
+    drop(case_run);
+    put
 }
 
 /// Makes the program of a case, and appends the differences of its run from the wanted results.
@@ -185,7 +202,9 @@ fn put_differences(
     out: &mut String,
 ) -> Result<(), Stop> {
     let program = program(alloc, cases, case)?;
-    put_case_runs(alloc, &program, case, out)
+    let put = put_case_runs(alloc, &program, case, out);
+    drop(program);
+    put
 }
 
 /// Returns the differences between a case's results and its wanted ones.
