@@ -55,7 +55,9 @@ fn admitted(
     arguments: &[Argument],
 ) -> Result<bool, AllocError> {
     let entry = entry(alloc, class, "add", "(II)I", arguments)?;
-    Ok(admits(program, Limits { threads, ..LIMITS }, &entry))
+    let is_admitted = admits(program, Limits { threads, ..LIMITS }, &entry);
+    drop(entry);
+    Ok(is_admitted)
 }
 
 /// Returns whether an entry is admitted that can be run, and entries without a thread, without the class, and with too
@@ -103,7 +105,18 @@ fn answers(
     entry: &Entry,
 ) -> Result<(bool, ([u64; 3], Outcome)), Fail> {
     let mut machine = Machine::new(alloc, program, LIMITS, entry)?;
-    Ok(answers_of(&mut machine))
+    let answers = answers_of(&mut machine);
+    drop(machine);
+    Ok(answers)
+}
+
+/// Makes a machine for `R.add` of 20 and 22, and returns what its calls return.
+fn answers_of_sum(alloc: Global, program: &Program) -> Result<(bool, ([u64; 3], Outcome)), Fail> {
+    let two = [Argument::Int(20), Argument::Int(22)];
+    let entry = entry(alloc, "R", "add", "(II)I", &two)?;
+    let answers = answers(alloc, program, &entry);
+    drop(entry);
+    answers
 }
 
 /// Asserts what a machine's calls return. Two turns initialise the class, and the third is the call. Four instructions
@@ -111,14 +124,7 @@ fn answers(
 fn assert_answers(rt: &impl Abort, alloc: Global, program: &Program) -> Result<(), Fail> {
     let admitted = all_admitted(alloc, program)?;
     assert_eq!(rt; admitted, [true, false, false, false]);
-    let entry = entry(
-        alloc,
-        "R",
-        "add",
-        "(II)I",
-        &[Argument::Int(20), Argument::Int(22)],
-    )?;
-    let (opening_is_bare, (taken, next)) = answers(alloc, program, &entry)?;
+    let (opening_is_bare, (taken, next)) = answers_of_sum(alloc, program)?;
     assert!(rt; opening_is_bare);
     assert_eq!(rt; taken, [0, 3, 4]);
     assert_eq!(rt; next, Outcome::Ended { last: true });
@@ -128,22 +134,30 @@ fn assert_answers(rt: &impl Abort, alloc: Global, program: &Program) -> Result<(
 #[test]
 fn a_machine_answers(rt: HostRuntime) -> Result<(), Fail> {
     let program = program_of(rt.alloc(), &[ADDS])?;
-    assert_answers(&rt, rt.alloc(), &program)
+    let asserted = assert_answers(&rt, rt.alloc(), &program);
+    drop(program);
+    asserted
+}
+
+/// Makes a machine for `P.add` of 3 and 4, and copies it after `turns` turns. Returns the results of both.
+fn results_of_sum(
+    alloc: Global,
+    program: &Program,
+    turns: u64,
+) -> Result<[Option<Value>; 2], Fail> {
+    let two = [Argument::Int(3), Argument::Int(4)];
+    let entry = entry(alloc, "P", "add", "(II)I", &two)?;
+    let results = results_after(alloc, program, &entry, turns);
+    drop(entry);
+    results
 }
 
 /// Asserts that a machine and a copy of it return 7, after any number of turns before the copy. After nine turns there
 /// are a string, its monitor, an array and a static field with a value.
 fn assert_copies(rt: &impl Abort, alloc: Global, program: &Program) -> Result<(), Fail> {
-    let entry = entry(
-        alloc,
-        "P",
-        "add",
-        "(II)I",
-        &[Argument::Int(3), Argument::Int(4)],
-    )?;
     let seven = Some(Value::Int(7));
     for turns in 0..12 {
-        let results = results_after(alloc, program, &entry, turns)?;
+        let results = results_of_sum(alloc, program, turns)?;
         assert_eq!(rt; results, [seven, seven]);
     }
     Ok(())
@@ -152,5 +166,7 @@ fn assert_copies(rt: &impl Abort, alloc: Global, program: &Program) -> Result<()
 #[test]
 fn a_copy_runs_by_itself(rt: HostRuntime) -> Result<(), Fail> {
     let program = program_of(rt.alloc(), &[COUNTS])?;
-    assert_copies(&rt, rt.alloc(), &program)
+    let asserted = assert_copies(&rt, rt.alloc(), &program);
+    drop(program);
+    asserted
 }

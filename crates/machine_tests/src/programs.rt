@@ -22,7 +22,9 @@ pub const LIMITS: Limits = Limits {
 /// Assembles a source. Its fault is that of the test.
 pub fn class_of(alloc: Global, text: &str) -> Result<ClassFile, Fail> {
     let source = read(alloc, text)?;
-    Ok(assemble(alloc, &source)?.into_class())
+    let assembled = assemble(alloc, &source);
+    drop(source);
+    Ok(assembled?.into_class())
 }
 
 /// Links the program of these sources, in order. A fault of a source or of linking is that of the test.

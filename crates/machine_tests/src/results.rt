@@ -28,7 +28,9 @@ fn results_of(
 fn results_of_both(machine: &mut Machine<'_>, turns: u64) -> Result<[Option<Value>; 2], Fail> {
     let _ = machine.step_consecutive(0, turns, &mut Recording::of_nothing());
     let mut copy = machine.copy()?;
-    results_of(&mut copy, machine)
+    let results = results_of(&mut copy, machine);
+    drop(copy);
+    results
 }
 
 /// Makes a machine and returns those results.
@@ -39,5 +41,7 @@ pub fn results_after(
     turns: u64,
 ) -> Result<[Option<Value>; 2], Fail> {
     let mut machine = Machine::new(alloc, program, LIMITS, entry)?;
-    results_of_both(&mut machine, turns)
+    let results = results_of_both(&mut machine, turns);
+    drop(machine);
+    results
 }
