@@ -92,11 +92,7 @@ fn turns_of(alloc: Global, machine: &mut Machine<'_>) -> Option<usize> {
 }
 
 /// Returns the number of turns from an entry on, and the result of its method, if there is memory.
-fn counted_from(
-    alloc: Global,
-    program: &Program,
-    entry: &Entry,
-) -> Option<(usize, Option<Value>)> {
+fn counted_from(alloc: Global, program: &Program, entry: &Entry) -> Option<(usize, Option<Value>)> {
     let mut machine = Machine::new(alloc, program, LIMITS, entry).ok()?;
     let turns = turns_of(alloc, &mut machine);
     let result = machine.result();
