@@ -1,6 +1,7 @@
 //! Judges a trace, and writes the lines that explain the verdict.
 
-ghost use Rattle.std.specs.Prelude.{◌≡◌, IfOk, Some};
+ghost use Rattle.std.specs.Prelude.{◌≡◌, [], IfOk, Some};
+ghost use Rattle.needs.specs.Unmatched.{unmatched_lines};
 ghost use Rattle.std.specs.String.{string_bytes};
 ghost use Rattle.velodrome.specs.Specification.{Specification};
 ghost use Rattle.judge.specs.Judgement.{IsJudgement};
@@ -26,6 +27,45 @@ pub(crate) struct Explained {
     pub(crate) text: String,
 }
 
+/// Feeds items to a checker, and explains its verdict. `events` are those of the items, and `unmatched` the lines that
+/// match no method.
+fn explain_fed(
+    alloc: Global,
+    program: &Program,
+    sources: &SourceFiles,
+    checker: &mut Checker,
+    items: &[Item],
+    events: &[EventTurn],
+    unmatched: &str,
+) -> Result<Explained, AllocError>
+    requires fresh { checker.old.items ≡ [] }
+    requires fed { MayBeFed checker.old.lines items.now }
+    requires unmatched { unmatched.now ≡ unmatched_lines program.now checker.old.lines }
+    ensures judged { IfOk result
+        (λ e. IsJudgement (Some checker.old.lines) items.now e.judgement) }
+    ensures text { IfOk result (λ e. string_bytes e.text ≡ verdict_part program.now
+        sources.now.first sources.now.files.now (Some checker.old.lines) e.judgement items.now
+        events.now) }
+{
+    let turns = turns_of(alloc, events)?;
+    feed_items(checker, items)?;
+    let judgement = judgement_of(checker)?;
+    let mut text = explain(alloc, checker, turns.as_slice(), &judgement.verdict)?;
+    put_event_places(
+        alloc,
+        &mut text,
+        program,
+        sources,
+        &judgement.verdict,
+        events,
+    )?;
+    text.push_str(unmatched)?;
+    Ok(Explained {
+        judgement: Some(judgement),
+        text,
+    })
+}
+
 /// Judges items by a specification, and explains the verdict. `events` are those of the items.
 fn explain_by(
     alloc: Global,
@@ -41,24 +81,18 @@ fn explain_by(
         sources.now.first sources.now.files.now (Some spec) e.judgement items.now events.now) }
 {
     let unmatched = unmatched_text(alloc, program, spec.lines())?;
-    let turns = turns_of(alloc, events)?;
     let mut checker = Checker::new(alloc, spec)?;
-    feed_items(&mut checker, items)?;
-    let judgement = judgement_of(&checker)?;
-    let mut text = explain(alloc, &checker, turns.as_slice(), &judgement.verdict)?;
-    put_event_places(
+    let explained = explain_fed(
         alloc,
-        &mut text,
         program,
         sources,
-        &judgement.verdict,
+        &mut checker,
+        items,
         events,
-    )?;
-    text.push_str(unmatched.as_str())?;
-    Ok(Explained {
-        judgement: Some(judgement),
-        text,
-    })
+        unmatched.as_str(),
+    );
+    drop(checker);
+    explained
 }
 
 /// Judges items, if there is a specification, and explains the verdict.

@@ -146,6 +146,23 @@ fn last_throw(
     Ok(last.line)
 }
 
+/// Returns the line of the last throw of a thread in the turns of choices, from a machine that stays as it is.
+fn last_throw_from(
+    alloc: Global,
+    opening: &Machine<'_>,
+    sources: &SourceFiles,
+    choices: &[ThreadId],
+    thread: ThreadId,
+) -> Result<String, AllocError>
+    ensures { IfOk result (λ line. string_bytes line ≡ (last_throw sources.now.first
+        sources.now.files.now thread no_throw 1 opening.now choices.now).line) }
+{
+    let mut machine = opening.copy()?;
+    let line = last_throw(alloc, &mut machine, sources, choices, thread);
+    drop(machine);
+    line
+}
+
 /// Returns the lines of the last throws of threads in the turns of choices. It takes the turns once for each thread.
 pub(crate) fn throw_lines(
     alloc: Global,
@@ -159,8 +176,7 @@ pub(crate) fn throw_lines(
 {
     let mut lines = String::new(alloc);
     for (thread, _) in uncaught {
-        let mut machine = opening.copy()?;
-        let line = last_throw(alloc, &mut machine, sources, choices, *thread)?;
+        let line = last_throw_from(alloc, opening, sources, choices, *thread)?;
         lines.push_str(line.as_str())?;
     }
     Ok(lines)

@@ -23,10 +23,14 @@ use std::alloc::Global;
 fn judge_statement(alloc: Global, before: Open, statement: Statement) -> Result<Open, LineFault>
     ensures { Says result (judge_statement before statement) }
 {
-    if before.is_repeated(&statement)? {
-        return Err(LineFault::Flaw(Flaw::Repeated));
-    }
-    Ok(before.with_statement(alloc, statement)?)
+    let fault = match before.is_repeated(&statement) {
+        Ok(false) => return Ok(before.with_statement(alloc, statement)?),
+        Ok(true) => LineFault::Flaw(Flaw::Repeated),
+        Err(error) => LineFault::from(error),
+    };
+    drop(statement);
+    drop(before);
+    Err(fault)
 }
 
 /// Judges a line of a kind, and adds its statement.

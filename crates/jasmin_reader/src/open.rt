@@ -59,6 +59,18 @@ fn nothing(alloc: Global) -> Reading
 }
 
 impl Parts {
+    /// Notes the member of a statement, if it is one.
+    fn note(&mut self, statement: &Statement) -> Result<(), AllocError>
+        ensures reading { OnOk result (self.new.reading ≡ self.old.reading) }
+        ensures fields { OnOk result
+            (FollowsFields self.old.fields self.new.fields statement.now) }
+        ensures methods { OnOk result (FollowsMethods self.old.methods self.new.methods
+            self.old.reading.method statement.now) }
+    {
+        note_field(&mut self.fields, statement)?;
+        note_method(&mut self.methods, &self.reading.method, statement)
+    }
+
     /// Adds a statement.
     fn add(&mut self, alloc: Global, statement: Statement) -> Result<(), AllocError>
         ensures reading { OnOk result
@@ -67,9 +79,13 @@ impl Parts {
         ensures methods { OnOk result
             (FollowsMethods self.old.methods self.new.methods self.old.reading.method statement) }
     {
-        note_field(&mut self.fields, &statement)?;
-        note_method(&mut self.methods, &self.reading.method, &statement)?;
-        with_statement(alloc, &mut self.reading, statement)
+        match self.note(&statement) {
+            Ok(()) => with_statement(alloc, &mut self.reading, statement),
+            Err(error) => {
+                drop(statement);
+                Err(error)
+            }
+        }
     }
 }
 

@@ -118,8 +118,8 @@ fn memory<'p>(alloc: Global, program: &'p Program) -> Result<(Heap<'p>, Statics<
       fields = map opening_static (static_fields program.now);
     }) }
 {
-    let heap = Heap::opening(alloc, program)?;
-    Ok((heap, Statics::opening(alloc, program)?))
+    let statics = Statics::opening(alloc, program)?;
+    Ok((Heap::opening(alloc, program)?, statics))
 }
 
 /// Returns the parts of a machine at its opening.
@@ -134,8 +134,8 @@ pub(crate) fn open<'p>(
     ensures { IfOk result (λ m.
         m ≡ opened_machine program.now limits (with_arguments entry.now method)) }
 {
-    let (heap, statics) = memory(alloc, program)?;
     let lists = opening_lists(alloc, program, entry)?;
+    let (heap, statics) = memory(alloc, program)?;
     Ok(Parts {
         alloc,
         limits,

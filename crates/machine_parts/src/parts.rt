@@ -4,7 +4,7 @@ ghost use Rattle.std.specs.Prelude.{◌≡◌, IfOk};
 ghost use Rattle.jvms_machine.specs.State.{monitor_at};
 ghost use Rattle.jvms_machine.specs.Threads.{thread_of};
 ghost use Rattle.jvms_machine.specs.Waiting.{is_waiter};
-ghost use Rattle.machine_parts.specs.Saved.{empty_heap, without_objects};
+ghost use Rattle.machine_parts.specs.Saved.{empty_heap, with_objects, without_objects};
 
 use heap::{Heap, Statics};
 use jvms_machine::machine::{Limits, ThreadId};
@@ -16,6 +16,7 @@ use monitors::{Monitors, Waiters};
 use program::Program;
 use std::alloc::{AllocError, Global};
 use std::marker::Model;
+use std::mem::replace;
 
 /// The parts of a machine, valid also in the middle of a turn. The program is that of the heap.
 #[derive(Drop)]
@@ -81,8 +82,8 @@ fn fields_without_objects<'p>(
     ensures { IfOk result
         (λ made. (made.0 ≡ empty_heap heap.now.program) × (made.1 ≡ statics.now)) }
 {
-    let empty = Heap::empty(alloc, heap.program())?;
-    Ok((empty, statics.copy(alloc)?))
+    let fields = statics.copy(alloc)?;
+    Ok((Heap::empty(alloc, heap.program())?, fields))
 }
 
 /// Returns copies of the held monitors and of the waiting threads.
@@ -125,14 +126,27 @@ impl<'p> Parts<'p> {
         })
     }
 
+    /// Puts a heap of the same program in place of the parts' own.
+    pub(crate) fn with_heap(mut self, heap: Heap<'p>) -> Parts<'p>
+        requires { heap.program ≡ self.program }
+        ensures { result ≡ with_objects heap.entry self.entry }
+    {
+        drop(replace(&mut self.heap, heap));
+        self
+    }
+
     /// Copies the parts.
     pub fn copy(&self) -> Result<Parts<'p>, AllocError>
         ensures { IfOk result (λ parts. parts ≡ self.now) }
     {
-        let heap = self.heap.copy()?;
-        let mut parts = self.copy_without_objects()?;
-        parts.heap = heap;
-        Ok(parts)
+        let parts = self.copy_without_objects()?;
+        match self.heap.copy() {
+            Ok(heap) => Ok(parts.with_heap(heap)),
+            Err(error) => {
+                drop(parts);
+                Err(error)
+            }
+        }
     }
 
     /// Returns the program.

@@ -49,9 +49,13 @@ impl<'p> SavedParts<'p> {
     pub fn restore(&self) -> Result<Parts<'p>, AllocError>
         ensures { IfOk result (λ parts. parts ≡ self.now) }
     {
-        let heap = self.heap.restore()?;
-        let mut parts = self.rest.copy_without_objects()?;
-        parts.heap = heap;
-        Ok(parts)
+        let parts = self.rest.copy_without_objects()?;
+        match self.heap.restore() {
+            Ok(heap) => Ok(parts.with_heap(heap)),
+            Err(error) => {
+                drop(parts);
+                Err(error)
+            }
+        }
     }
 }

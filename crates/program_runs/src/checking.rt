@@ -154,7 +154,31 @@ pub fn feed_program(
 {
     program.program_invariant();
     let mut machine = Machine::new(alloc, program, limits, entry)?;
-    check_machine(alloc, &mut machine, chooser, most, checker)
+    let ran = check_machine(alloc, &mut machine, chooser, most, checker);
+    drop(machine);
+    ran
+}
+
+/// Runs a machine from its opening as `check_machine` does, and judges the run.
+fn judge_by(
+    alloc: Global,
+    machine: &mut Machine<'_>,
+    chooser: &mut Chooser,
+    most: TurnLimit,
+    checker: &mut Checker,
+) -> Result<CheckedRun, ProgramFault>
+    requires opened { IsOpened machine.old }
+    requires fresh { checker.old.items ≡ [] }
+    ensures ending { IfOk result (λ run. run.ending ≡ ending_of most chooser.old machine.old) }
+    ensures judgement { IfOk result (λ run. IsJudgementBy checker.old.lines
+        (view_of_run most chooser.old machine.old).items run.judgement) }
+    ensures chooser { OnOk result
+        (chooser.new ≡ chooser_after_choices most chooser.old machine.old) }
+    ensures memory { IfErr result (λ fault. fault ≡ ProgramFault.Memory) }
+{
+    let ending = check_machine(alloc, machine, chooser, most, checker)?;
+    let judgement = judgement_of(checker)?;
+    Ok(CheckedRun { ending, judgement })
 }
 
 /// Runs a machine from its opening as `check_machine` does, with a checker of its own, and judges the run.
@@ -174,9 +198,9 @@ fn judge_machine(
     ensures memory { IfErr result (λ fault. fault ≡ ProgramFault.Memory) }
 {
     let mut checker = Checker::new(alloc, spec)?;
-    let ending = check_machine(alloc, machine, chooser, most, &mut checker)?;
-    let judgement = judgement_of(&checker)?;
-    Ok(CheckedRun { ending, judgement })
+    let judged = judge_by(alloc, machine, chooser, most, &mut checker);
+    drop(checker);
+    judged
 }
 
 /// Runs a program as `feed_program` does, and returns the ending of the run and its judgement by a specification.
@@ -206,5 +230,7 @@ pub fn check_program(
 {
     program.program_invariant();
     let mut machine = Machine::new(alloc, program, limits, entry)?;
-    judge_machine(alloc, &mut machine, chooser, most, spec)
+    let judged = judge_machine(alloc, &mut machine, chooser, most, spec);
+    drop(machine);
+    judged
 }

@@ -57,5 +57,7 @@ pub fn run_program(
         IsProgramFault fault (view_of_program most chooser.old limits program.now entry.now)) }
 {
     let mut machine = Machine::new(alloc, program, limits, entry)?;
-    run_machine(alloc, &mut machine, chooser, most)
+    let ran = run_machine(alloc, &mut machine, chooser, most);
+    drop(machine);
+    ran
 }

@@ -86,5 +86,7 @@ pub fn trace_program(
         IsProgramFault fault (view_of_program most chooser.old limits program.now entry.now)) }
 {
     let mut machine = Machine::new(alloc, program, limits, entry)?;
-    trace_machine(alloc, &mut machine, chooser, most)
+    let traced = trace_machine(alloc, &mut machine, chooser, most);
+    drop(machine);
+    traced
 }
