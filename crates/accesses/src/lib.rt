@@ -15,4 +15,5 @@ mod touch;
 
 pub use accesses::Accesses;
 pub use hashes::{hash_of_item, hash_of_touched};
+pub use place::share_variable;
 pub use touch::thread_of;

@@ -11,7 +11,7 @@ ghost use Rattle.velodrome.specs.Verdicts.{IsVerdict};
 ghost use Rattle.jvms_machine.specs.declared.trace.Item.TheVariants.{Enter, Exit};
 ghost use Rattle.atom_graph.specs.Checking.{IsFeeding, state_of_fed};
 
-use crate::copies::copied_method;
+use crate::copies::share_method;
 use crate::counts::Counts;
 use crate::fault::FeedFault;
 use crate::stay::Stay;
@@ -86,7 +86,7 @@ impl Checker {
         requires { item.now ≡ Enter thread method.now }
         ensures { IsFeeding self.old item.now result self.new }
     {
-        let key = copied_method(method)?;
+        let key = share_method(method)?;
         let copy = self.trace.prepare(thread, hash_of_touched(item), item)?;
         self.trace.entered(thread, key, copy);
         Ok(())

@@ -2,23 +2,13 @@
 
 ghost use Rattle.std.specs.Prelude.{◌≡◌, IfOk};
 
-use jvms_machine::trace::{Item, Variable};
-use jvms_program::key::{FieldKey, MethodKey};
+use accesses::share_variable;
+use jvms_machine::trace::Item;
+use jvms_program::key::MethodKey;
 use std::alloc::AllocError;
 
-/// Clones a field's key.
-fn copied_field(field: &FieldKey) -> Result<FieldKey, AllocError>
-    ensures { IfOk result (λ k. k ≡ field.now) }
-{
-    Ok(FieldKey {
-        class: field.class.share()?,
-        name: field.name.share()?,
-        descriptor: field.descriptor.share()?,
-    })
-}
-
-/// Clones a method's key.
-pub(crate) fn copied_method(method: &MethodKey) -> Result<MethodKey, AllocError>
+/// Clones a method's key. The clone shares its texts.
+pub(crate) fn share_method(method: &MethodKey) -> Result<MethodKey, AllocError>
     ensures { IfOk result (λ k. k ≡ method.now) }
 {
     Ok(MethodKey {
@@ -28,37 +18,18 @@ pub(crate) fn copied_method(method: &MethodKey) -> Result<MethodKey, AllocError>
     })
 }
 
-/// Clones a variable.
-fn copied_variable(variable: &Variable) -> Result<Variable, AllocError>
-    ensures { IfOk result (λ v. v ≡ variable.now) }
-{
-    match variable {
-        Variable::Instance { reference, field } => Ok(Variable::Instance {
-            reference: *reference,
-            field: copied_field(field)?,
-        }),
-        Variable::Static { field } => Ok(Variable::Static {
-            field: copied_field(field)?,
-        }),
-        Variable::Element { reference, index } => Ok(Variable::Element {
-            reference: *reference,
-            index: *index,
-        }),
-    }
-}
-
-/// Clones an item.
-pub(crate) fn copied_item(item: &Item) -> Result<Item, AllocError>
+/// Clones an item. The clone shares its texts.
+pub(crate) fn share_item(item: &Item) -> Result<Item, AllocError>
     ensures { IfOk result (λ i. i ≡ item.now) }
 {
     match item {
         Item::Read { thread, variable } => Ok(Item::Read {
             thread: *thread,
-            variable: copied_variable(variable)?,
+            variable: share_variable(variable)?,
         }),
         Item::Write { thread, variable } => Ok(Item::Write {
             thread: *thread,
-            variable: copied_variable(variable)?,
+            variable: share_variable(variable)?,
         }),
         Item::Acquire { thread, reference } => Ok(Item::Acquire {
             thread: *thread,
@@ -78,11 +49,11 @@ pub(crate) fn copied_item(item: &Item) -> Result<Item, AllocError>
         }),
         Item::Enter { thread, method } => Ok(Item::Enter {
             thread: *thread,
-            method: copied_method(method)?,
+            method: share_method(method)?,
         }),
         Item::Exit { thread, method } => Ok(Item::Exit {
             thread: *thread,
-            method: copied_method(method)?,
+            method: share_method(method)?,
         }),
     }
 }

@@ -2,7 +2,7 @@
 
 ghost use Rattle.std.specs.Prelude.{◌≡◌, IfOk, IfSome, IsTrue};
 
-use crate::copies::copied_item;
+use crate::copies::share_item;
 use accesses::hash_of_item;
 use jvms_machine::trace::Item;
 use shared_data::shared::Shared;
@@ -42,7 +42,7 @@ impl ItemCache {
         if let Some(cached) = self.cached_in(self.slot_of(hash), item)? {
             return Ok(cached);
         }
-        let cached = Shared::new(self.alloc, copied_item(item)?)?;
+        let cached = Shared::new(self.alloc, share_item(item)?)?;
         self.keep(hash, &cached)?;
         Ok(cached)
     }

@@ -15,7 +15,7 @@ use std::alloc::AllocError;
 use trace::Recording;
 
 impl Parts<'_> {
-    /// Frees the monitor of an object, and appends its thread to the waiters of the object. Records the release. If
+    /// Frees the monitor of an object, and appends the thread to the waiters of the object. Records the release. If
     /// there is no memory, nothing changes.
     #[tactic(auto, using(trace::proofs::Recorded::cut_recorded))]
     pub fn free_to_wait(

@@ -6,8 +6,7 @@ ghost use Rattle.machine_text.specs.Objects.{class_lines, initialisation_text};
 ghost use Rattle.machine_text.specs.Objects.{class_text};
 
 use crate::fields::{Keeper, put_fields};
-use crate::value::put_counted;
-use escapes::put_name;
+use escapes::{put_counted, put_name};
 use jvms_machine::state::Initialisation;
 use jvms_program::number::ClassNumber;
 use jvms_program::program::Class;

@@ -12,8 +12,8 @@ ghost use Rattle.machine_text.specs.Parts.{Shows, elements_at, fields_at, fields
 
 use crate::chain::classes_from_top;
 use crate::fields::{Keeper, put_fields};
-use crate::value::{put_counted, put_value};
-use escapes::put_name;
+use crate::value::put_value;
+use escapes::{put_counted, put_name};
 use jvms_machine::laws::the_keys_of_an_instance_are_those_of_its_class;
 use jvms_machine::machine::ThreadId;
 use jvms_program::program::Class;

@@ -5,7 +5,7 @@ ghost use Rattle.std.specs.String.{string_bytes};
 ghost use Rattle.machine_text.specs.Outcomes.{blocked_text, cause_text, outcome_text, status_text};
 
 use crate::place::put_initialisation;
-use crate::value::put_counted;
+use escapes::put_counted;
 use jvms_machine::machine::{BadCause, BlockedOn, Outcome, Status};
 use program::Program;
 use std::alloc::{AllocError, Global};

@@ -6,7 +6,7 @@ ghost use Rattle.std.specs.String.{string_bytes};
 ghost use Rattle.escapes.specs.Escapes.{hexadecimal};
 ghost use Rattle.machine_text.specs.Objects.{byte_text, bytes_text, output_text};
 
-use crate::value::put_counted;
+use escapes::put_counted;
 use machine::Machine;
 use std::alloc::{AllocError, Global};
 

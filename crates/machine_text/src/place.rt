@@ -7,8 +7,7 @@ ghost use Rattle.jvms_program.specs.Program.{key_of};
 ghost use Rattle.escapes.specs.Keys.{method_text};
 ghost use Rattle.machine_text.specs.Places.{class_name_text, place_text};
 
-use crate::value::put_counted;
-use escapes::{put_method, put_name};
+use escapes::{put_counted, put_method, put_name};
 use jvms_program::number::{ClassNumber, MethodNumber};
 use program::Program;
 use std::alloc::{AllocError, Global};

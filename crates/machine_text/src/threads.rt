@@ -10,7 +10,7 @@ ghost use Rattle.machine_text.specs.Threads.{threads_text};
 
 use crate::outcome::put_outcome;
 use crate::thread_frames::put_frame;
-use crate::value::put_counted;
+use escapes::put_counted;
 use jvms_machine::machine::ThreadId;
 use machine::Machine;
 use std::alloc::{AllocError, Global};

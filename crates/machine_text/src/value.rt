@@ -1,38 +1,12 @@
-//! Numbers and values, as the debugger writes them.
+//! Values, as the debugger writes them.
 
 ghost use Rattle.std.specs.Prelude.{◌≡◌, ◌++◌, OnOk, codes};
-ghost use Rattle.std.specs.Fmt.{decimal, signed_decimal};
 ghost use Rattle.std.specs.String.{string_bytes};
 ghost use Rattle.machine_text.specs.Values.{value_text, values_text};
 
-use itoa::Buffer;
+use escapes::{put_counted, put_signed};
 use jvms_machine::value::Value;
 use std::alloc::AllocError;
-
-/// Appends a number in decimal.
-fn put_number(out: &mut String, number: u64) -> Result<(), AllocError>
-    ensures { OnOk result (string_bytes out.new ≡ string_bytes out.old ++ decimal number) }
-{
-    let mut buffer = Buffer::new();
-    out.push_str(buffer.format(number))
-}
-
-/// Appends a signed number in decimal.
-fn put_signed(out: &mut String, number: i64) -> Result<(), AllocError>
-    ensures { OnOk result (string_bytes out.new ≡ string_bytes out.old ++ signed_decimal number) }
-{
-    let mut buffer = Buffer::new();
-    out.push_str(buffer.format(number))
-}
-
-/// Appends a word and then a number.
-pub(crate) fn put_counted(out: &mut String, word: &str, number: u64) -> Result<(), AllocError>
-    ensures { OnOk result (string_bytes out.new ≡ string_bytes out.old
-        ++ (word.now ++ decimal number)) }
-{
-    out.push_str(word)?;
-    put_number(out, number)
-}
 
 /// Appends an int: `I:n`.
 fn put_int(out: &mut String, number: i32) -> Result<(), AllocError>

@@ -8,12 +8,12 @@ ghost use Rattle.needs.specs.Lines.{error_text, hint_text, instruction_text, lac
 use crate::hint::{hint_of, is_absence, unnamed_hint};
 use crate::lack::{Lack, lack_of};
 use crate::named::{class_named, member_named};
-use escapes::{MethodKey, put_member, put_method, put_name};
+use escapes::{MethodKey, put_member, put_method, put_name, put_number};
 use jvms_program::number::MethodNumber;
 use jvms_program::program::Instruction;
 use jvms_program::thrown::Thrown;
 use program::Program;
-use source_lines::{SourceFiles, put_number, put_place};
+use source_lines::{SourceFiles, put_place};
 use std::alloc::AllocError;
 
 /// Returns the name of an error that resolution throws.
@@ -128,7 +128,7 @@ fn put_instruction(out: &mut String, method: &MethodKey, place: usize) -> Result
 {
     put_method(out, method)?;
     out.push_str(" @")?;
-    put_number(out, place)?;
+    put_number(out, place as u64)?;
     Ok(())
 }
 

@@ -5,6 +5,7 @@ ghost use Rattle.pictures.specs.Sketches.{IsSketch, cycle_length, cycle_of, edge
 
 use crate::rows::{Row, chosen_rows, rows_of};
 use atom_graph::Checker;
+use report::first;
 use std::alloc::{AllocError, Global};
 use velodrome::verdict::{ConflictingPair, Verdict};
 
@@ -24,16 +25,6 @@ pub struct Sketch {
     pub cycle: Vec<u64>,
     /// The first edges of the cycle, each by its two events.
     pub edges: Vec<ConflictingPair>,
-}
-
-/// Returns the first `count` items of a list, or all if there are no more.
-fn first<T>(items: &[T], count: usize) -> &[T]
-    ensures { result.now ≡ take count items.now }
-{
-    if items.len() <= count {
-        return items;
-    }
-    items.split_at(count).0
 }
 
 /// Returns the number of transactions of a verdict's cycle.

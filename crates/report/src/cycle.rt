@@ -7,8 +7,8 @@ ghost use Rattle.report.specs.CycleTexts.{all_edge_lines, cycle_lines, edge_at, 
 
 use crate::events::first;
 use crate::fed_trace::FedTrace;
-use crate::number::{put_counted, put_number};
 use atom_graph::Checker;
+use escapes::{put_counted, put_number};
 use std::alloc::{AllocError, Global};
 use velodrome::verdict::{ConflictingPair, Verdict};
 

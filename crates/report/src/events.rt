@@ -16,7 +16,7 @@ pub fn is_event(item: &Item) -> bool
 }
 
 /// Returns the first `count` items of a list, or all if there are no more.
-pub(crate) fn first<T>(items: &[T], count: usize) -> &[T]
+pub fn first<T>(items: &[T], count: usize) -> &[T]
     ensures { result.now ≡ take count items.now }
 {
     if items.len() <= count {

@@ -9,10 +9,9 @@ ghost use Rattle.report.specs.CycleTexts.{actor_at, actor_text, event_line, even
 
 use crate::actor::naming_method;
 use crate::events::{event_places, events_of_transaction};
-use crate::number::{put_counted, put_number};
 use accesses::thread_of;
 use atom_graph::Checker;
-use escapes::put_method;
+use escapes::{put_counted, put_method, put_number};
 use jvms_machine::trace::Item;
 use jvms_program::key::MethodKey;
 use std::alloc::{AllocError, Global};

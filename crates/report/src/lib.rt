@@ -5,7 +5,6 @@ mod actor;
 mod cycle;
 mod events;
 mod fed_trace;
-mod number;
 mod serial;
 mod verdict;
 
@@ -13,6 +12,6 @@ pub use cycle::explain;
 pub use debugger_script::{
     NoPrompt, Prompt, ScriptFault, fault_text, run_prompted, run_script, view_text,
 };
-pub use events::is_event;
+pub use events::{first, is_event};
 pub use serial::serial_lines;
 pub use verdict::verdict_line;

@@ -6,7 +6,7 @@ ghost use Rattle.std.specs.String.{string_bytes};
 ghost use Rattle.report.specs.SerialTexts.{event_line, events_of, serial_text};
 
 use crate::events::is_event;
-use crate::number::put_number;
+use escapes::put_number;
 use jvms_machine::trace::Item;
 use std::alloc::{AllocError, Global};
 use trace_text::put_line;

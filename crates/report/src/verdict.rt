@@ -5,8 +5,8 @@ ghost use Rattle.std.specs.List.{flat_map};
 ghost use Rattle.std.specs.String.{string_bytes};
 ghost use Rattle.report.specs.VerdictTexts.{counts_text, cycle_text, number_text, verdict_text};
 
-use crate::number::{put_counted, put_number};
 use atom_graph::Counts;
+use escapes::{put_counted, put_number};
 use std::alloc::{AllocError, Global};
 use velodrome::verdict::Verdict;
 

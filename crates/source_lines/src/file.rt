@@ -7,10 +7,9 @@ ghost use Rattle.jvms_program.specs.Meaning.{code_of};
 ghost use Rattle.source_lines.specs.SourceLines.{line_in, name_in, place_in_file, source_name, source_text};
 
 use crate::bytes::u2;
-use crate::number::put_number;
 use crate::pool::{is_named, utf8_at};
 use crate::table::line_of_byte;
-use escapes::put_name;
+use escapes::{put_name, put_number};
 use jvms_file::class_file::{ClassFile, Code, Constant, KeptAttribute};
 use jvms_program::attributes::code_of;
 use std::alloc::AllocError;
@@ -78,7 +77,7 @@ fn put_source(out: &mut String, name: Option<&[u16]>, line: Option<u16>) -> Resu
     out.push_str(" (")?;
     put_name(out, name)?;
     out.push_str(":")?;
-    put_number(out, usize::from(line))?;
+    put_number(out, u64::from(line))?;
     out.push_str(")")
 }
 

@@ -4,7 +4,6 @@
 mod bytes;
 mod file;
 mod files;
-mod number;
 mod place;
 mod pool;
 mod table;
@@ -12,5 +11,4 @@ mod table;
 pub use files::SourceFiles;
 pub use jvms_file::class_file::ClassFile;
 pub use jvms_program::number::MethodNumber;
-pub use number::put_number;
 pub use place::put_place;

@@ -10,10 +10,10 @@ ghost use Rattle.trace_text.specs.Items.{IsItem, item_text, touched_text};
 ghost use Rattle.trace_text.specs.Parts.{IsItemOf, word_text, kind_of};
 
 use crate::members::Keys;
-use crate::number::{number_of, put_number};
+use crate::number::number_of;
 use crate::variable::{put_variable, variable_of};
 use crate::word::Word;
-use escapes::{cut_twice, put_method};
+use escapes::{cut_twice, put_method, put_number};
 use jvms_machine::machine::ThreadId;
 use jvms_machine::trace::Item;
 use std::alloc::AllocError;
@@ -61,10 +61,10 @@ fn put_touched(out: &mut String, item: &Item) -> Result<(), AllocError>
     match item {
         Item::Read { variable, .. } | Item::Write { variable, .. } => put_variable(out, variable),
         Item::Acquire { reference, .. } | Item::Release { reference, .. } => {
-            put_number(out, *reference)
+            put_number(out, u64::from(*reference))
         }
-        Item::Fork { started, .. } => put_number(out, *started),
-        Item::Join { ended, .. } => put_number(out, *ended),
+        Item::Fork { started, .. } => put_number(out, u64::from(*started)),
+        Item::Join { ended, .. } => put_number(out, u64::from(*ended)),
         Item::Enter { method, .. } | Item::Exit { method, .. } => put_method(out, method),
     }
 }
@@ -77,7 +77,7 @@ pub(crate) fn put_item(out: &mut String, item: &Item) -> Result<(), AllocError>
 {
     out.push_str(kind_of(item).text())?;
     out.push_str(" ")?;
-    put_number(out, thread_of(item))?;
+    put_number(out, u64::from(thread_of(item)))?;
     out.push_str(" ")?;
     put_touched(out, item)
 }

@@ -1,25 +1,11 @@
-//! Writes and reads numbers in decimal, without leading zeros.
+//! Reads numbers in decimal, without leading zeros.
 
-ghost use Rattle.std.specs.Prelude.{◌≡◌, ◌≢◌, ℕ, ◌+◌, ◌<◌, ◌++◌, OnOk, OnErr, MatchOption};
+ghost use Rattle.std.specs.Prelude.{◌≡◌, ◌≢◌, ℕ, ◌+◌, ◌<◌, MatchOption};
 ghost use Rattle.std.specs.Fmt.{decimal};
-ghost use Rattle.std.specs.String.{string_bytes};
 ghost use Rattle.escapes.specs.Readings.{IsReadAs};
 ghost use Rattle.trace_text.specs.Items.{IsNumber};
 
-use itoa::Buffer;
-use std::alloc::AllocError;
-
 const MOST: u64 = u32::MAX as u64;
-
-/// Appends a number in decimal to a text.
-pub(crate) fn put_number(out: &mut String, number: u32) -> Result<(), AllocError>
-    ensures exact { OnOk result (string_bytes out.new ≡ string_bytes out.old ++ decimal number) }
-    // Without memory nothing changes.
-    ensures kept { OnErr result (string_bytes out.new ≡ string_bytes out.old) }
-{
-    let mut buffer = Buffer::new();
-    out.push_str(buffer.format(number))
-}
 
 /// Returns the value of a decimal digit, or `None` for another byte.
 fn digit_of(byte: u8) -> Option<u64>

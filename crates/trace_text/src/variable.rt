@@ -8,8 +8,8 @@ ghost use Rattle.trace_text.specs.Items.{IsVariable, variable_text};
 ghost use Rattle.trace_text.specs.Parts.{IsVariableWith};
 
 use crate::members::Keys;
-use crate::number::{number_of, put_number};
-use escapes::{cut, dots_in, put_field};
+use crate::number::number_of;
+use escapes::{cut, dots_in, put_field, put_number};
 use jvms_machine::trace::Variable;
 use std::alloc::AllocError;
 
@@ -25,9 +25,9 @@ fn put_element(out: &mut String, reference: u32, index: u32) -> Result<(), Alloc
         ≡ string_bytes out.old ++ variable_text (Variable.Element reference index)) }
     ensures appended { OnErr result (StartsWith (string_bytes out.new) (string_bytes out.old)) }
 {
-    put_number(out, reference)?;
+    put_number(out, u64::from(reference))?;
     out.push_str("[")?;
-    put_number(out, index)?;
+    put_number(out, u64::from(index))?;
     out.push_str("]")
 }
 
@@ -39,7 +39,7 @@ pub(crate) fn put_variable(out: &mut String, variable: &Variable) -> Result<(), 
 {
     match variable {
         Variable::Instance { reference, field } => {
-            put_number(out, *reference)?;
+            put_number(out, u64::from(*reference))?;
             out.push_str(".")?;
             put_field(out, field)
         }

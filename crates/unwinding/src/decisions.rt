@@ -90,8 +90,8 @@ fn popped_decision<'p>(
     }
 }
 
-/// Decides the turn of the call of this frame with a pending object of a class. A handler takes it, if there is one and
-/// `max_stack` has room for it, else the call is popped.
+/// Decides the turn of the call of this frame with a pending object of a class. A handler catches it if there is one, and
+/// the turn is bad if `max_stack` has no room for the object. Without a handler the call is popped.
 fn handler_decision<'p>(
     parts: &Parts<'p>,
     t: ThreadId,

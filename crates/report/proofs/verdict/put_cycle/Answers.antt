@@ -7,7 +7,7 @@ use Rattle.report.specs.VerdictTexts.{counts_text, number_text}
 use Rattle.report.proofs.verdict.put_cycle.Goals as goal
 
 joined : (out word first space counts colon numbers end : List ℕ) →
-    out ++ word ++ first ++ space ++ counts ++ colon ++ numbers ++ end
+    out ++ (word ++ first) ++ space ++ counts ++ colon ++ numbers ++ end
     ≡ out ++ (word ++ first ++ space ++ counts ++ colon ++ numbers ++ end)
 joined out word first space counts colon numbers end = simp append_assoc
 
