@@ -10,44 +10,53 @@ A program is current if it was built from the sources as they are. Three may be 
 
     crates/jvmx/out/jvmx             the proved one, left by `rt ci` or by `--prove`
     crates/jvmx/out/unproved/jvmx    of sources that the gate proved, built without a new proof
-    crates/jvmx/out/checked/jvmx     of other sources, with all checks
+    crates/jvmx/out/checked/jvmx     of other sources, or of sources that it may not have proved, with all checks
+
+The gate proved what git says is a commit of the main line, unchanged: jvmx_build/checkout.py decides that.
 """
 import contextlib
 import fcntl
 import os
+import select
 import shutil
 import signal
+import stat
 import sys
 import threading
 import time
 from pathlib import Path
 from typing import NamedTuple
 
-sys.dont_write_bytecode = True
-from build import checkout, proved, quick  # noqa: E402
-
 ROOT = Path(__file__).resolve().parent
+sys.dont_write_bytecode = True
+sys.path.insert(0, str(ROOT))
+from jvmx_build import FAILED, checkout, proved, quick  # noqa: E402
+
 OUT = ROOT / "crates" / "jvmx" / "out"
 LOG = OUT / "launcher.log"
 # The folder of what a quick build makes on its way.
 BUILDING = OUT / "building"
-# The exit statuses of jvmx where words are refused, and where a file or a device fails.
-UNKNOWN_WORDS, FAILED = 2, 3
+# The exit status of jvmx where words are refused.
+UNKNOWN_WORDS = 2
+STANDARD_OUTPUT = 1
+# The signals that end a build.
+ENDING = (signal.SIGTERM, signal.SIGHUP)
 
 # What is said before a build.
 QUICK_BUILD = (
     "building the program without a new proof, in two to three minutes: the gate proved these sources ({name}), and"
-    " rt ci proves them here"
+    " ./jvmx --prove proves them here"
 )
 CHECKED_BUILD = (
-    "the sources are {doubt} and unproved: building the program with all checks, in about four minutes; it stops at the"
-    " first that fails, and ./jvmx --prove proves it"
+    "{doubt}; building the program with all checks, in about four minutes: it is four to five times slower and stops at"
+    " the first check that fails; ./jvmx --prove proves it"
 )
 PROOF = "proving and building the program, which takes most of an hour the first time, and minutes after an edit"
 NO_KIT = (
     "there is no rt on the PATH ({path}); rt is the command of the Rattle toolchain, the kit that proves and builds this"
     " program: put the kit's folder bin on the PATH"
 )
+NO_FOLDER = "a program has to be built from these sources, but no file can be written here ({file}: {why})"
 
 
 class Failed(Exception):
@@ -63,7 +72,8 @@ class Record(NamedTuple):
 
     program: str  # its own hash, since `rt` may put another in its place
     sources: str  # the hash of the sources
-    origin: str  # "commit d0a9e17"
+    origin: str  # "commit d0a9e17c on origin/main"
+    count: str  # how many sources there were. `jvmx` reads this line
 
 
 class Build(NamedTuple):
@@ -80,22 +90,23 @@ class Build(NamedTuple):
         """Returns what the program was built from, or None where there is no program, or no record of it."""
         if not self.program.exists() or not self.record_file().exists():
             return None
-        lines = self.record_file().read_text().splitlines()
+        lines = self.record_file().read_text(encoding="utf-8").splitlines()
         if len(lines) != len(Record._fields) or lines[0] != checkout.hash_of_file(self.program):
             return None
         return Record(*lines)
 
     def keep_record(self, sources, origin):
         """Writes down what the program was built from."""
-        lines = Record(checkout.hash_of_file(self.program), sources, origin)
-        self.record_file().write_text("\n".join([*lines, ""]))
+        lines = Record(checkout.hash_of_file(self.program), sources, origin, str(len(checkout.source_files())))
+        self.record_file().write_text("\n".join([*lines, ""]), encoding="utf-8")
 
     def is_current(self):
         """Returns whether the program was built from the sources as they are. If so, the next call sees it by its time."""
         record, begin = self.record(), time.time()
         if not record:
             return False
-        if checkout.is_newest(self.program):
+        files = checkout.source_files()
+        if record.count == str(len(files)) and checkout.is_newest(self.program, files):
             return True
         if record.sources != checkout.hash_of_sources():
             return False
@@ -151,11 +162,19 @@ class Progress:
             self.thread.join()
 
 
+def lock_file():
+    """Opens the file that has one launcher of this checkout build at a time."""
+    try:
+        OUT.mkdir(parents=True, exist_ok=True)
+        return open(OUT / "launcher.lock", "w")
+    except OSError as error:
+        raise Failed(NO_FOLDER.format(file=error.filename, why=error.strerror)) from None
+
+
 @contextlib.contextmanager
 def turn():
     """Waits until no other launcher of this checkout builds, and has others wait."""
-    OUT.mkdir(parents=True, exist_ok=True)
-    with open(OUT / "launcher.lock", "w") as file:
+    with lock_file() as file:
         try:
             fcntl.flock(file, fcntl.LOCK_EX | fcntl.LOCK_NB)
         except BlockingIOError:
@@ -181,12 +200,9 @@ def need_kit():
         raise Failed(NO_KIT.format(path=os.environ.get("PATH", "")))
 
 
-def origin():
-    """Returns where the sources are from. In an archive, a change shows only after the first build."""
-    found, record = checkout.origin(), UNCHECKED.record()
-    if not checkout.has_git() and record and record.sources != checkout.hash_of_sources():
-        return found._replace(doubt="changed since the first build")
-    return found
+def can_build():
+    """Returns whether a program can be built here."""
+    return bool(quick.kit_folder()) and os.access(OUT, os.W_OK)
 
 
 def prove():
@@ -215,7 +231,7 @@ def make(kind, folder, progress):
 
 def build():
     """Builds the program without a proof, and returns its path. Where the kit isn't as expected, proves instead."""
-    begin, sources, found = time.time(), checkout.hash_of_sources(), origin()
+    begin, sources, found = time.time(), checkout.hash_of_sources(), checkout.origin()
     kind, line = (CHECKED, CHECKED_BUILD) if found.doubt else (UNCHECKED, QUICK_BUILD)
     say(line.format(**found._asdict()))
     try:
@@ -236,7 +252,11 @@ def is_proved():
     """Returns whether the proved program is current. One that `rt ci` left has no record yet, and gets it here."""
     if PROVED.record():
         return PROVED.is_current()
-    if not checkout.is_newest(PROVED.program):
+    if not PROVED.program.exists():
+        return False
+    # A deleted source shows in the time of its folder.
+    files = [*checkout.source_files(), *(folder for folder, _ in checkout.source_folders())]
+    if not checkout.is_newest(PROVED.program, files) or not checkout.has_whole_folders():
         return False
     with contextlib.suppress(OSError):
         PROVED.keep_record(checkout.hash_of_sources(), checkout.origin().name)
@@ -247,8 +267,12 @@ def current_program():
     """Returns the path of the program to run, or None if it has to be built."""
     if is_proved():
         return PROVED.program
-    kind = CHECKED if origin().doubt else UNCHECKED
-    return kind.program if kind.is_current() else None
+    if UNCHECKED.is_current():
+        return UNCHECKED.program
+    # Of sources that the gate has proved since, a quicker program can be built.
+    if CHECKED.is_current() and (checkout.origin().doubt or not can_build()):
+        return CHECKED.program
+    return None
 
 
 def program_to_run():
@@ -317,11 +341,27 @@ def answer(words):
     sys.exit(UNKNOWN_WORDS)
 
 
+def stop(number, _):
+    """Ends this program at a signal, and its commands with it, and has its folders removed."""
+    for one in ENDING:
+        signal.signal(one, signal.SIG_IGN)
+    sys.exit(128 + number)
+
+
+def stop_without_reader():
+    """Ends this program once no one reads the pipe that it prints to, as where `jvmx` was ended. There may be no pipe."""
+    with contextlib.suppress(OSError):
+        if stat.S_ISFIFO(os.fstat(STANDARD_OUTPUT).st_mode):
+            pipe = select.poll()
+            pipe.register(STANDARD_OUTPUT, 0)
+            pipe.poll()
+            os.kill(os.getpid(), signal.SIGTERM)
+
+
 def guarded(work):
     """Does some work, and ends with one line and a status where it fails."""
-    # So that commands are ended and folders removed if this program gets a signal to stop.
-    for one in (signal.SIGTERM, signal.SIGHUP):
-        signal.signal(one, lambda number, _: sys.exit(128 + number))
+    for one in ENDING:
+        signal.signal(one, stop)
     try:
         work()
     except Failed as cause:
@@ -338,6 +378,7 @@ def guarded(work):
 
 def main():
     """Prints what the words ask for."""
+    threading.Thread(target=stop_without_reader, daemon=True).start()
     line = answer(sys.argv[1:])
     if line:
         print(line)

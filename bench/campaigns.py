@@ -303,7 +303,8 @@ def main():
     except Difference as difference:
         sys.exit(str(difference))
     finally:
-        pool.shutdown(cancel_futures=True)
+        # A fault has cancelled the rest.
+        pool.shutdown()
     print(f"{words.programs} programs, {counts['jobs']} jobs: all tables are those of runs one at a time")
     cycles = f"{counts['cycles']} jobs with a cycle, of {counts['programs']} programs"
     print(f"{cycles}: not all jobs of {counts['some']}; {counts['uncaught']} jobs with an uncaught exception")

@@ -190,7 +190,7 @@ def document_faults(lines):
 
 def entry_faults(line):
     """Yields the names in the heading of an entry of PROOFS.md that are no crates."""
-    named = line.removeprefix("### ").partition(" (")[0].split(", ")
+    named = line[len("### "):].partition(" (")[0].split(", ")
     yield from (one for one in named if NAMED.fullmatch(one) and one not in CRATES)
 
 

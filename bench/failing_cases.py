@@ -1,4 +1,5 @@
-"""What failing_memory.py runs: for each name the program, its words, its standard input and the folder in which it runs."""
+"""What failing_memory.py runs: for each name the program, its words, its standard input, the folder in which it runs, and the
+calls that have to be refused in some of its runs."""
 from pathlib import Path
 from typing import NamedTuple
 
@@ -38,6 +39,7 @@ class Case(NamedTuple):
     words: list
     script: str
     folder: Path
+    refusable: tuple = ()
 
 
 def commands(folder):
@@ -60,12 +62,27 @@ def commands(folder):
     return {name: Case("jvmx", words, SCRIPT, folder) for name, words in words.items()}
 
 
-def calls_of(part, words=None):
-    """Returns a run of `repeated_calls` on a part of the words that its crate has for it, else on these words."""
+# The calls of each part, as `repeated_calls` names them; `serial` only of an atomic trace.
+INPUTS = ("words", "classes", "file", "link")
+TURNS = (*INPUTS, "read", "Machine::new", "step", "copy", "trace", "threads", "output")
+CHECKS = ("Spec::read", "Checker::new", "feed", "verdict")
+REFUSABLE = {
+    "reading": (*INPUTS, "name", "source", "assemble", "read", "list", "write"),
+    "turns": (*TURNS, *CHECKS),
+    "judgements": ("words", "inputs", "file", "Spec::read", "judge", "trace"),
+    "sessions": (*INPUTS, "read", "arguments", "script", "Session::new", "command", "answer"),
+    "campaigns": (*INPUTS, "read", "Spec::read", "run_campaign", "table_text"),
+}
+
+
+def calls_of(part, words=None, others=()):
+    """Returns a run of `repeated_calls` on a part of the words that its crate has for it, else on these words. `others` are
+    calls that it makes besides."""
     crate = CRATES / "repeated_calls"
     parts = [part.splitlines() for part in (crate / "args").read_text().split("--\n")]
     given = next(given for given in parts if given[0] == part)
-    return Case(crate.name, [part, *words] if words else given, (crate / "stdin").read_text(), crate / "data")
+    words, refusable = [part, *words] if words else given, (*REFUSABLE[part], *others)
+    return Case(crate.name, words, (crate / "stdin").read_text(), crate / "data", refusable)
 
 
 def calls():
@@ -73,9 +90,9 @@ def calls():
     lost_update = ["LostUpdate", "LostUpdate.class"]
     return {
         "reading": calls_of("reading"),
-        "turns, exceptions": calls_of("turns"),
+        "turns, exceptions": calls_of("turns", others=["serial"]),
         "turns, a cycle": calls_of("turns", ["atomic LostUpdate.inc", *lost_update]),
-        "turns, atomic": calls_of("turns", ["plain *", *lost_update]),
+        "turns, atomic": calls_of("turns", ["plain *", *lost_update], others=["serial"]),
         "judgement": calls_of("judgements"),
         "session": calls_of("sessions"),
         "campaign of 4 jobs, 1 worker": calls_of("campaigns"),

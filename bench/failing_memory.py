@@ -12,6 +12,9 @@ nothing on standard output that the other run doesn't begin with. A refused camp
 The calls are made by the program `repeated_calls`. Each run must print to standard output what it prints with ample memory,
 with status 0. Standard error names the call that was refused, if one was.
 
+The exit status is 1 at the first run that ends otherwise. It is 1 too if no run of a command was refused, or if a call was
+refused in none: a program that refuses nothing shows nothing.
+
 A small library in C, built by the kit's clang and loaded in front of the system's, refuses the allocation and counts all
 of them. The dynamic loader's own may be refused too. A thread's start allocates by calloc, which isn't refused. A campaign
 with one worker starts no thread.
@@ -33,7 +36,7 @@ ROOT = Path(__file__).resolve().parent.parent
 sys.path.insert(0, str(ROOT))
 import failing_cases  # noqa: E402
 import launcher  # noqa: E402
-from build import quick  # noqa: E402
+from jvmx_build import quick  # noqa: E402
 
 REFUSED, COUNTER = "FAILING_ALLOCATION", "FAILING_COUNTER"
 REFUSAL = re.compile(r"jvmx: (.*: )?(\w\d\d )?Memory$")
@@ -103,10 +106,13 @@ class Command(NamedTuple):
     def runs(self, ample, jobs):
         """Yields the runs in which an allocation was refused, each with its number, until a run needs no more."""
         pool = concurrent.futures.ThreadPoolExecutor(jobs)
+        results = pool.map(self.run, range(1, ample.allocations + 1))
         try:
-            yield from enumerate(pool.map(self.run, range(1, ample.allocations + 1)), 1)
+            yield from enumerate(results, 1)
         finally:
-            pool.shutdown(cancel_futures=True)
+            # Cancels the runs that haven't begun.
+            results.close()
+            pool.shutdown()
         # Threads may need more in one run than in another.
         for refused in itertools.count(ample.allocations + 1):
             ran = self.run(refused)
@@ -123,7 +129,7 @@ def is_refusal(words, ran, ample):
     return ran.status == 3 and bool(REFUSAL.match(last)) and ample.out.startswith(ran.out)
 
 
-def try_command(command, jobs):
+def try_command(command, jobs, _):
     """Runs a command of jvmx, and returns how many runs were refused, and how many ended as with ample memory."""
     ample = command.run(0)
     refused = same = 0
@@ -134,11 +140,14 @@ def try_command(command, jobs):
             refused += 1
         else:
             sys.exit(f"allocation {number} of {command.words}: {ran}, but with ample memory {ample}")
+    if not refused:
+        sys.exit(f"{command.words}: 0 runs were refused, and {same} ended as with ample memory")
     return f"{refused} refused, {same} ended as with ample memory"
 
 
-def try_calls(command, jobs):
-    """Runs a command that makes calls, and returns how many allocations were refused, and to which calls."""
+def try_calls(command, jobs, refusable):
+    """Runs a command that makes calls, and returns how many allocations were refused, and to which calls. Each of those that
+    are refusable has to be among them."""
     ample = command.run(0)
     if ample.status or ample.err:
         sys.exit(f"{command.words} with ample memory: {ample}")
@@ -150,8 +159,11 @@ def try_calls(command, jobs):
             sys.exit(f"allocation {number} of {command.words}: {ran}, but with ample memory {ample}")
         calls.update(line.partition(": ")[0] for line in lines)
         allocations += 1
+    missing = [call for call in refusable if not calls[call]]
+    if missing:
+        sys.exit(f"{command.words}: {allocations} refused, but none of them to {len(missing)} calls: {', '.join(missing)}")
     named = ", ".join(f"{call} {count}" for call, count in calls.most_common())
-    return f"{allocations} refused, {sum(calls.values())} of them to calls: {named}"
+    return f"{allocations} refused, {sum(calls.values())} of them to {len(calls)} calls: {named}"
 
 
 def build_library(folder):
@@ -192,7 +204,7 @@ def main():
             case = cases[name]
             program = program_of(words, case.program)
             command = Command([program, *map(str, case.words)], case.script, case.folder, library)
-            print(f"{name}: {attempt(command, words.jobs)}", flush=True)
+            print(f"{name}: {attempt(command, words.jobs, case.refusable)}", flush=True)
 
 
 if __name__ == "__main__":

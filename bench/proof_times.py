@@ -14,6 +14,7 @@ part of a function: it grows with what the function owns at each of its exits, `
 import collections
 import json
 import os
+import re
 import sys
 import tempfile
 import time
@@ -55,7 +56,7 @@ def process(pid):
 
 def modules(folder):
     """The modules that a check has written, each with its time."""
-    return sorted((one.stat().st_mtime, one.name.removesuffix(".oantt")) for one in os.scandir(folder)) if folder else []
+    return sorted((one.stat().st_mtime, re.sub(r"\.oantt$", "", one.name)) for one in os.scandir(folder)) if folder else []
 
 
 def look(seen):

@@ -55,7 +55,7 @@ def reached(calls, roots, but=()):
 
 def declaration(text):
     """Returns the declaration of a function that the other half has."""
-    head = text.partition("\n")[0].removesuffix("{").replace("define internal", "declare hidden", 1)
+    head = re.sub(r"\{$", "", text.partition("\n")[0]).replace("define internal", "declare hidden", 1)
     return f"{head}\n"
 
 

@@ -7,10 +7,11 @@ here, over all of it. Where `rt` can't keep what it builds beside the kit, it bu
 """
 import os
 import shutil
-import subprocess
 import tempfile
 from concurrent.futures import FIRST_COMPLETED, ThreadPoolExecutor, wait
 from pathlib import Path
+
+from jvmx_build import commands
 
 ROOT = Path(__file__).resolve().parent.parent
 # What the check of a crate takes at most, but for a few.
@@ -74,15 +75,9 @@ def copy_sources(into):
     shutil.copytree(ROOT / "crates", into / "crates", ignore=shutil.ignore_patterns("out", "must-fail"))
 
 
-def said_if_failed(words, folder):
-    """Runs a command, and returns what it said if it failed, else None."""
-    ran = subprocess.run(words, cwd=folder, text=True, stdout=subprocess.PIPE, stderr=subprocess.STDOUT)
-    return None if ran.returncode == 0 else ran.stdout or f"{words[:2]} ended with {ran.returncode}"
-
-
 def build_library(root, name, jobs):
     """Builds the library of a crate in a copy, and returns what was said if it failed."""
-    return said_if_failed(["rt", "lib", "--jobs", str(jobs)], root / "crates" / name)
+    return commands.said_if_failed(["rt", "lib", "--jobs", str(jobs)], root / "crates" / name)
 
 
 def build_side_by_side(needed, below, copies, report):
@@ -90,7 +85,7 @@ def build_side_by_side(needed, below, copies, report):
     Those with nearly the longest way of all get two processors, since the program waits for them."""
     way = ways(needed, below)
     todo, done, free, running = set(needed), set(), list(copies), {}
-    with ThreadPoolExecutor(len(copies)) as pool:
+    with ThreadPoolExecutor(len(copies)) as pool, commands.ended_together():
         while todo or running:
             longest = max(way[one] for one in [*todo, *(name for name, _ in running.values())])
             ready = sorted((one for one in todo if set(below[one]) <= done), key=lambda one: -way[one])
@@ -125,7 +120,7 @@ def build_over_copies(program, report):
 
 def build_here(program):
     """Builds a program in this checkout, and returns what was said if it failed."""
-    return said_if_failed(["rt", "run", "--", "--version"], ROOT / "crates" / program)
+    return commands.said_if_failed(["rt", "run", "--", "--version"], ROOT / "crates" / program)
 
 
 def build(program, report):
