@@ -6,6 +6,7 @@ ghost use Rattle.jvms_program.specs.BuiltIn.{object, class_with, interface_with,
 use crate::code::{call_run, load, return_void, target_field};
 use crate::members::{abstract_method, field, method_with_code, native_method};
 use jvms_file::insn::{Branch, FieldUse};
+use jvms_program::members::Members;
 use jvms_program::program::{Class, ClassKind, Field, Instruction, Method};
 use shared_data::items::Items;
 use shared_data::shared::Text;
@@ -32,8 +33,8 @@ pub(crate) fn class_with(
         kind: ClassKind::Neither,
         superclass: Some(ascii_text(alloc, superclass)?),
         interfaces: Items::from_vec(interfaces),
-        fields: Items::from_vec(fields),
-        methods: Items::from_vec(methods),
+        fields: Members::from_vec(alloc, fields)?,
+        methods: Members::from_vec(alloc, methods)?,
     })
 }
 
@@ -50,8 +51,8 @@ pub(crate) fn interface_with(
         kind: ClassKind::Interface,
         superclass: Some(ascii_text(alloc, OBJECT)?),
         interfaces: Items::new(alloc),
-        fields: Items::new(alloc),
-        methods: Items::from_vec(methods),
+        fields: Members::from_vec(alloc, Vec::new(alloc))?,
+        methods: Members::from_vec(alloc, methods)?,
     })
 }
 
@@ -77,8 +78,8 @@ pub(crate) fn object_class(alloc: Global) -> Result<Class, AllocError>
         kind: ClassKind::Neither,
         superclass: None,
         interfaces: Items::new(alloc),
-        fields: Items::new(alloc),
-        methods: Items::from_vec(methods),
+        fields: Members::from_vec(alloc, Vec::new(alloc))?,
+        methods: Members::from_vec(alloc, methods)?,
     })
 }
 

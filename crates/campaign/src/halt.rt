@@ -1,6 +1,6 @@
 //! The reasons why a campaign has no table.
 
-use campaign_book::Book;
+use campaign_book::{Book, StoreFault};
 
 /// A reason why a campaign has no table.
 #[derive(Drop)]
@@ -11,6 +11,11 @@ pub enum Halted<'a> {
     TooManyWorkers,
     /// G04: memory ran out before any worker began.
     Memory,
-    /// G05: memory ran out later, for a worker or for the table. The book has what was stored.
-    WorkerFailed(Book<'a>),
+    /// G05: memory ran out later, for a worker or for the table.
+    WorkerFailed {
+        /// The book, which has what was stored.
+        book: Book<'a>,
+        /// The reason: a growth was refused. The book itself refused no entry.
+        cause: StoreFault,
+    },
 }

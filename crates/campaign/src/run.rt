@@ -1,7 +1,8 @@
 //! The run of a campaign.
 
-ghost use Rattle.std.specs.Prelude.{◌≡◌, ◌<◌, ◌≤◌, [], All, replicate, vec_len, vec_capacity, IfOk, IfErr, IsTrue};
-ghost use Rattle.campaign.specs.Halts.{IsMemory, KeepsBook, KeepsLimits};
+ghost use Rattle.std.specs.Prelude.{◌≡◌, ◌<◌, ◌≤◌, [], All, replicate, vec_len, vec_capacity, IfOk, IfErr, IfSome, IsTrue};
+ghost use Rattle.campaign.specs.Halts.{IsMemory, IsRefusedGrowth, KeepsBook, KeepsLimits};
+ghost use Rattle.campaign_book.specs.declared.fault.StoreFault.TheVariants as store_fault;
 ghost use Rattle.campaign.specs.Tables.{IsTable};
 ghost use Rattle.campaign_desk.specs.Desk.{IsSeatOf, new_seats};
 ghost use Rattle.campaign_jobs.specs.Plans.{fits};
@@ -11,7 +12,7 @@ use crate::halt::Halted;
 use crate::shared::{Campaign, Share, SharedBook};
 use crate::table::{Table, table_of};
 use crate::worker::{Work, Worker};
-use campaign_book::Book;
+use campaign_book::{Book, StoreFault};
 use campaign_desk::{Desk, DeskFault, Seat};
 use campaign_jobs::Plan;
 use program::Program;
@@ -43,20 +44,26 @@ fn hire<C: Campaign>(
         workers.push_reserved(Worker {
             seat,
             share,
-            failed: false,
+            failed: None,
         });
     }
     workers
 }
 
-/// Moves the shares back, and returns whether memory ran out for a worker.
-fn dismiss<C: Campaign>(mut workers: Vec<Worker<C>>, shares: &mut Vec<Share<C>>) -> bool
+/// Moves the shares back, and returns why a worker failed, if one did: memory ran out for it.
+fn dismiss<C: Campaign>(
+    mut workers: Vec<Worker<C>>,
+    shares: &mut Vec<Share<C>>,
+) -> Option<StoreFault>
     requires room { (vec_len shares.old ≡ 0) × (vec_len workers ≤ vec_capacity shares.old) }
-    ensures { vec_len shares.new ≡ vec_len workers }
+    ensures count { vec_len shares.new ≡ vec_len workers }
+    ensures memory { IfSome result (λ fault. fault ≡ store_fault.Memory) }
 {
-    let mut failed = false;
+    let mut failed = None;
     while let Some(worker) = workers.pop() {
-        failed = failed || worker.failed;
+        if worker.failed.is_some() {
+            failed = worker.failed;
+        }
         shares.push_reserved(worker.share);
     }
     failed
@@ -110,12 +117,15 @@ fn run_named<'a, C: Campaign + Send + Sync, G: Gate + Sync, R: Threads + Wait + 
     gate.ended();
     let failed = dismiss(team, &mut shares);
     let mut book = book.close(shares);
-    if failed {
-        return Err(Halted::WorkerFailed(book));
+    if let Some(cause) = failed {
+        return Err(Halted::WorkerFailed { book, cause });
     }
     match table_of(alloc, &mut book, program, plan) {
         Ok(table) => Ok(table),
-        Err(_) => Err(Halted::WorkerFailed(book)),
+        Err(_) => Err(Halted::WorkerFailed {
+            book,
+            cause: StoreFault::Memory,
+        }),
     }
 }
 
@@ -138,6 +148,8 @@ pub fn run_campaign<'a, G: Gate + Sync, R: Threads + Wait + Sync>(
     ensures table { IfOk result (λ table. IsTable program.now plan.now table.results.items) }
     // The book that is left is of this program and this plan. Its type ensures the rest.
     ensures book { IfErr result (KeepsBook program.now plan.now) }
+    // A worker's failure is a refused growth.
+    ensures cause { IfErr result IsRefusedGrowth }
 {
     match Desk::open(alloc, plan.jobs, workers) {
         Ok((desk, seats)) => {

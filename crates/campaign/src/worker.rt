@@ -1,7 +1,8 @@
 //! One worker of a campaign.
 
-ghost use Rattle.std.specs.Prelude.{◌≡◌, ◌<◌, IfErr, IsTrue};
+ghost use Rattle.std.specs.Prelude.{◌≡◌, ◌<◌, IfErr, IsTrue, Some};
 ghost use Rattle.campaign_book.specs.Books.{HasCycle};
+ghost use Rattle.campaign_book.specs.declared.fault.StoreFault.{StoreFault};
 ghost use Rattle.campaign_book.specs.declared.fault.StoreFault.TheVariants.{Memory};
 ghost use Rattle.campaign_desk.specs.Desk.{IsSeatOf};
 ghost use Rattle.campaign_jobs.specs.Plans.{fits};
@@ -15,12 +16,13 @@ use program::Program;
 use std::alloc::Global;
 use std::sync::Wait;
 
-/// A worker's seat and share, and whether memory ran out for it.
+/// A worker's seat and share, and why it ended early, if it did: memory ran out for it.
 #[derive(Drop)]
 pub(crate) struct Worker<C: Campaign> {
     pub seat: Seat,
     pub share: Share<C>,
-    pub failed: bool,
+    pub failed: Option<StoreFault>,
+    ghost memory: { (fault : StoreFault) → failed ≡ Some fault → fault ≡ Memory },
 }
 
 /// The data that the workers of a campaign share. Its type ensures that all of it is of one campaign.
@@ -141,8 +143,8 @@ impl<'a, C: Campaign> Work<'a, '_, C> {
                 return;
             };
             gate.before(number);
-            if self.job(rt, gate, worker, number).is_err() {
-                worker.failed = true;
+            if let Err(fault) = self.job(rt, gate, worker, number) {
+                worker.failed = Some(fault);
                 return;
             }
             gate.after(number);

@@ -1,6 +1,7 @@
 -- Consecutive parts, and one more.
 use Rattle.std.proofs.Common.{◌≡◌, ℕ, zero, suc, ◌+◌, ◌<◌, inl, inr, List, [], ◌∷◌, ◌++◌, length, take, get_or, refl, sym, ap, ◌∙◌, subst, arith, append-nil}
 use Rattle.std.specs.List.{flat_map}
+use Rattle.std.specs.Prelude.{slice_index_or}
 use Rattle.std.proofs.lemmas.Grind.{flat_map-append}
 use Rattle.std.proofs.lemmas.List.{length-append, take_more}
 use Rattle.velodrome.specs.Cycles.{IsIn}
@@ -9,10 +10,10 @@ use Rattle.campaign_text.specs.declared.part.Part.{Part}
 use Rattle.campaign_text.specs.Joined.{AreChained, AreConsecutive, count_of, results_of}
 
 -- The element at a place of a list is in the list.
-pub get_in : (parts : List Part) (i : ℕ) (d : Part) → i < length parts → IsIn (get_or parts i d) parts
-get_in [] i d within = let no : ⊥ = omega arith in absurd no
-get_in (p ∷ parts) zero d within = inl refl
-get_in (p ∷ parts) (suc i) d within = inr (get_in parts i d (omega arith))
+pub index_in : (parts : List Part) (i : ℕ) (part d : Part) → i < length parts → part ≡ slice_index_or parts i d → IsIn part parts
+index_in [] i part d within is = absurd (omega (arith, within))
+index_in (p ∷ parts) zero part d within is = inl is
+index_in (p ∷ parts) (suc i) part d within is = inr (index_in parts i part d (omega (arith, within)) is)
 
 consecutive_more : (first : ℕ) (chain : List Part) (p : Part) → AreConsecutive first chain → p.first ≡ first + length (flat_map results_of chain) → AreConsecutive first (chain ++ p ∷ [])
 consecutive_more first [] p are next = (omega (arith, next), tt)

@@ -9,16 +9,33 @@ use crate::part::Part;
 use campaign::{JobResult, Table};
 use std::alloc::{AllocError, Global};
 
-/// Returns a part that begins with this job and has a result.
-#[tactic(auto, using(crate::proofs::Chains::get_in))]
-fn part_from(parts: &[Part], job: u64) -> Option<&Part>
+/// Returns the first job of the part at a place, or 0 if there is no such part.
+fn first_at(parts: &[Part], place: usize) -> u64 {
+    match parts.get(place) {
+        Some(part) => part.first,
+        None => 0,
+    }
+}
+
+/// Returns the places of the parts that have a job, in the order of their first jobs.
+fn places_by_job(alloc: Global, parts: &[Part]) -> Result<Vec<usize>, AllocError> {
+    let mut places = Vec::with_capacity(alloc, parts.len())?;
+    for (place, part) in parts.iter().enumerate() {
+        if !part.table.results.is_empty() {
+            places.push(place)?;
+        }
+    }
+    places.sort_unstable_by_key(|place| first_at(parts, *place));
+    Ok(places)
+}
+
+/// Returns the part at a place, if it begins with this job.
+fn part_from(parts: &[Part], place: usize, job: u64) -> Option<&Part>
     ensures among { IfSome result (λ part. IsIn part.now parts.now) }
     ensures first { IfSome result (λ part. part.now.first ≡ job) }
 {
-    let place = parts
-        .iter()
-        .position(|part| part.first == job && !part.table.results.is_empty())?;
-    Some(&parts[place])
+    let part = parts.get(place)?;
+    if part.first == job { Some(part) } else { None }
 }
 
 /// Appends the results of a part.
@@ -28,14 +45,15 @@ fn append(results: &mut Vec<JobResult>, part: &Part) -> Result<(), AllocError>
     results.extend_from_slice(part.table.results.as_slice())
 }
 
-/// Returns the results of consecutive parts from job 0 on. They end at the first job with which no part begins.
+/// Returns the results of consecutive parts from job 0 on, of the parts at these places in their order. They end before
+/// the first part that doesn't begin with the next job.
 #[tactic(auto, using(crate::proofs::Chains::none_chained, crate::proofs::Chains::one_more))]
-fn chained(alloc: Global, parts: &[Part]) -> Result<Vec<JobResult>, AllocError>
+fn chained(alloc: Global, parts: &[Part], places: &[usize]) -> Result<Vec<JobResult>, AllocError>
     ensures { IfOk result (λ results. AreChained parts.now results.items) }
 {
     let mut results = Vec::new(alloc);
-    for _round in 0..parts.len() {
-        let Some(part) = part_from(parts, results.len() as u64) else {
+    for place in places {
+        let Some(part) = part_from(parts, *place, results.len() as u64) else {
             return Ok(results);
         };
         append(&mut results, part)?;
@@ -55,30 +73,17 @@ fn count_of(parts: &[Part]) -> Option<usize>
     Some(count)
 }
 
-/// Returns whether a part other than the one at a place has a job.
-fn is_repeated(parts: &[Part], place: usize, job: u64) -> bool {
-    for (other, part) in parts.iter().enumerate() {
-        if other != place && part.has(job) {
-            return true;
+/// Returns the first job that two parts have. The places are those of the parts in the order of their first jobs.
+fn repeated_job(parts: &[Part], places: &[usize]) -> Option<u64> {
+    let mut next = 0;
+    for place in places {
+        let part = parts.get(*place)?;
+        if part.first < next {
+            return Some(part.first);
         }
+        next = part.next();
     }
-    false
-}
-
-/// Returns the first job that two parts have.
-fn repeated_job(parts: &[Part]) -> Option<u64> {
-    let mut first = None;
-    for (place, part) in parts.iter().enumerate() {
-        let job = part.first;
-        let is_first = match first {
-            Some(repeated) => job < repeated,
-            None => true,
-        };
-        if is_first && part.has(job) && is_repeated(parts, place, job) {
-            first = Some(job);
-        }
-    }
-    first
+    None
 }
 
 /// Joins the tables of the parts of a campaign, in any order, to the table of the whole. Parts without a job are
@@ -91,13 +96,14 @@ pub fn join(alloc: Global, parts: &[Part]) -> Result<Table, JoinFault>
     // The results are those of consecutive parts from job 0 on, and no result is omitted.
     ensures { IfOk result (λ table. AreJoined parts.now table.results.items) }
 {
-    let results = chained(alloc, parts)?;
+    let places = places_by_job(alloc, parts)?;
+    let results = chained(alloc, parts, places.as_slice())?;
     if let Some(count) = count_of(parts)
         && count == results.len()
     {
         return Ok(Table { results });
     }
-    match repeated_job(parts) {
+    match repeated_job(parts, places.as_slice()) {
         Some(job) => Err(JoinFault::Repeated { job }),
         None => Err(JoinFault::Missing {
             job: results.len() as u64,

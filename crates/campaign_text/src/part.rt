@@ -11,11 +11,8 @@ pub struct Part {
 }
 
 impl Part {
-    /// Returns whether the part has a job.
-    pub(crate) fn has(&self, job: u64) -> bool {
-        match job.checked_sub(self.first) {
-            Some(place) => place < self.table.results.len() as u64,
-            None => false,
-        }
+    /// Returns the number of the job after the last one, or the greatest number if that is beyond it.
+    pub(crate) fn next(&self) -> u64 {
+        self.first.saturating_add(self.table.results.len() as u64)
     }
 }

@@ -2,7 +2,7 @@
 use Rattle.std.specs.Prelude.{◌≡◌, ℕ, ◌<◌, ◌≤◌, ◌⊎◌, Bool, true, false, List, Result, Ok}
 use Rattle.jvms_program.specs.declared.program.Class.{Class}
 use Rattle.campaign_desk.specs.declared.fault.DeskFault.TheVariants as desk_fault
-use Rattle.campaign_desk.specs.Limits.{most_jobs, most_workers}
+use Rattle.campaign_desk.specs.Limits.{most_jobs, most_workers, FitsLimits}
 use Rattle.judge.specs.Faults as judge
 use Rattle.judge.specs.Programs.{NotRun}
 use Rattle.campaigning.specs.declared.fault.CampaignFault.{CampaignFault}
@@ -19,8 +19,8 @@ abbrev pub IsHalt : ℕ → ℕ → CampaignFault → Type 0
 IsHalt jobs workers (fault.Judge why) = ⊥
 IsHalt jobs workers (fault.Desk desk_fault.TooManyJobs) = most_jobs < jobs
 IsHalt jobs workers (fault.Desk desk_fault.TooManyWorkers) = (jobs ≤ most_jobs) × ((workers ≡ 0) ⊎ (most_workers < workers))
-IsHalt jobs workers (fault.Desk desk_fault.Memory) = Unit {0}
-IsHalt jobs workers fault.WorkerFailed = Unit {0}
+IsHalt jobs workers (fault.Desk desk_fault.Memory) = FitsLimits jobs workers
+IsHalt jobs workers fault.WorkerFailed = FitsLimits jobs workers
 IsHalt jobs workers fault.Output = ⊥
 
 -- There is a program that the plan fits.
@@ -31,7 +31,7 @@ IsFitted said = (program : List Class) × (said ≡ Ok program)
 abbrev pub IsFault : ℕ → ℕ → CampaignFault → Result (List Class) NotRun → Type 0
 IsFault jobs workers (fault.Judge why) said = judge.IsFault why said
 IsFault jobs workers (fault.Desk why) said = IsFitted said × IsHalt jobs workers (fault.Desk why)
-IsFault jobs workers fault.WorkerFailed said = IsFitted said
+IsFault jobs workers fault.WorkerFailed said = IsFitted said × IsHalt jobs workers fault.WorkerFailed
 IsFault jobs workers fault.Output said = IsFitted said
 
 -- A fault of an input names one of this number of files.

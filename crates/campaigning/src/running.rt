@@ -51,7 +51,7 @@ fn run_fitting<G: Gate + Sync, R: Threads + Wait + Sync>(
         Err(Halted::TooManyJobs) => Err(CampaignFault::Desk(DeskFault::TooManyJobs)),
         Err(Halted::TooManyWorkers) => Err(CampaignFault::Desk(DeskFault::TooManyWorkers)),
         Err(Halted::Memory) => Err(CampaignFault::Desk(DeskFault::Memory)),
-        Err(Halted::WorkerFailed(book)) => {
+        Err(Halted::WorkerFailed { book, .. }) => {
             drop(book);
             Err(CampaignFault::WorkerFailed)
         }

@@ -1,3 +1,4 @@
+pub mod AncestorLaws
 pub mod ChainLaws
 pub mod HierarchyLaws
 pub mod MarkLaws

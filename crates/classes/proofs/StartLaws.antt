@@ -16,7 +16,7 @@ use Rattle.jvms_program.specs.Program.{class_named, class_number}
 use Rattle.jvms_program.specs.Resolution.{chain, chain_within}
 use Rattle.jvms_program.specs.Slots.{slot_of, static_slot_of}
 use Rattle.classes.specs.declared.slot_starts.FieldStarts.{FieldStarts}
-use Rattle.classes.specs.Hierarchy.{IsHierarchyOf, rank}
+use Rattle.classes.specs.Hierarchy.{IsHierarchyOf, chain_up, rank}
 use Rattle.classes.specs.Places.{class_place}
 use Rattle.classes.specs.Slots.{AreCountable, AreSlotsFrom, AreStarts, AreStartsOf, AreTotals, count_of, count_of_all, is_static_or_not, place_among, slot_under, total_above, total_or_zero}
 use Rattle.classes.proofs.HierarchyLaws.{at_its_place, few, lower, named, number_passes, rank_within}
@@ -44,11 +44,6 @@ module _ (program : List Class) where
   none_yet : (P : Class → Type 0) (name : List ℕ) → AllByRecursion P (chain_within zero program name)
   unfolding chain_within
   none_yet P name = tt
-
-  -- The chain above a class.
-  abbrev pub chain_up : Option (List ℕ) → List Class
-  chain_up None = []
-  chain_up (Some name) = chain program name
 
 module _ (program : List Class) (rows : List (List ℕ)) (ranks order : List ℕ) (h : IsHierarchyOf program rows ranks order) where
   -- A class has a rank below this one.

@@ -4,7 +4,7 @@ use Rattle.std.specs.Prelude.{◌≡◌, ℕ, ◌<◌, ◌≤◌, ◌&&◌, Bool
 use Rattle.std.specs.List.{flat_map, list_all}
 use Rattle.jvms_program.specs.declared.program.Class.{Class}
 use Rattle.jvms_program.specs.Program.{class_number}
-use Rattle.jvms_program.specs.Resolution.{supers_of}
+use Rattle.jvms_program.specs.Resolution.{chain, supers_of}
 
 -- ---- Numbers
 
@@ -23,6 +23,11 @@ super_numbers program c = numbers_of program (supers_of c)
 -- Returns the numbers of the superinterfaces and the superclass of each class of the program.
 abbrev pub super_rows : List Class → List (List ℕ)
 super_rows program = map (super_numbers program) program
+
+-- Returns the chain of a superclass, or no classes if there is none.
+abbrev pub chain_up : List Class → Option (List ℕ) → List Class
+chain_up program None = []
+chain_up program (Some name) = chain program name
 
 -- ---- The order
 

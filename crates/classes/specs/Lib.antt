@@ -1,3 +1,4 @@
+pub mod Ancestors
 pub mod Chains
 pub mod Hierarchy
 pub mod Marks

@@ -1,6 +1,6 @@
 //! Walks up the superclasses of a class.
 
-ghost use Rattle.std.specs.Prelude.{◌≡◌, ◌∷◌, [], IfSome, MatchOption, length, option_copied};
+ghost use Rattle.std.specs.Prelude.{◌≡◌, ◌∷◌, [], IfSome, MatchOption, option_copied};
 ghost use Rattle.jvms_program.specs.Resolution.{chain};
 ghost use Rattle.classes.specs.Chains.{classes_left};
 ghost use Rattle.classes.specs.Places.{class_place};
@@ -62,17 +62,4 @@ impl<'a> Chain<'a> {
         }
         Some((number, class))
     }
-}
-
-/// Returns the number of classes of a chain, if it is less than `most`.
-pub fn height_of(program: &Classes, name: &[u16], most: usize) -> Option<usize>
-    ensures { IfSome result (λ height. height ≡ length (chain program.now name.now)) }
-{
-    let mut up = Chain::of(program, name);
-    for height in 0..most {
-        if up.next_class().is_none() {
-            return Some(height);
-        }
-    }
-    None
 }

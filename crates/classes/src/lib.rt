@@ -5,6 +5,7 @@
 mod ancestors;
 mod chain;
 mod class_list;
+mod class_sets;
 mod class_type;
 mod exists;
 mod field_name;
@@ -28,8 +29,9 @@ mod subtypes;
 mod supers;
 mod walk;
 
-pub use chain::{height_of, superclass_name};
+pub use chain::superclass_name;
 pub use class_list::ClassList;
+pub use class_sets::ancestor_sets;
 pub use field_name::FieldName;
 pub use list::{Classes, Ordered};
 pub use lookup::{declared_field_number, declared_number, numbered};

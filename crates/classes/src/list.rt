@@ -1,10 +1,11 @@
 //! The classes of a program whose hierarchy isn't circular.
 
-ghost use Rattle.std.specs.Prelude.{◌≡◌, ◌≤◌, IfOk, IsOk, None, false, length, option_copied, slice_get};
+ghost use Rattle.std.specs.Prelude.{◌≡◌, ◌∷◌, ◌<◌, ◌≤◌, All, IfOk, Some, IsOk, None, false, length, option_copied, slice_get};
 ghost use Rattle.std.specs.Option.{option_map, unwrap_or};
 ghost use Rattle.jvms_program.specs.BuiltIn.{is_built_in};
 ghost use Rattle.jvms_program.specs.Program.{IsProgram, class_named, class_number, method_at, key_of};
-ghost use Rattle.jvms_program.specs.Resolution.{names_interface};
+ghost use Rattle.jvms_program.specs.Resolution.{chain, names_interface};
+ghost use Rattle.classes.specs.Hierarchy.{chain_up};
 ghost use Rattle.classes.specs.Ordered.{IsOrderedOf};
 ghost use Rattle.classes.specs.Slots.{AreCountable};
 
@@ -80,6 +81,27 @@ impl Classes {
         ensures { length self.now ≤ 1048576 }
     {
         self.list.few_classes_invariant();
+    }
+
+    /// States that the chain of a class is the class, followed by the chain of its superclass. It does nothing at run
+    /// time.
+    pub fn chain_invariant(&self, number: ClassNumber, class: &Class)
+        requires there { slice_get self.now number ≡ Some class.now }
+        requires named { class_number self.now class.now.name ≡ Some number }
+        ensures { chain self.now class.now.name
+            ≡ class.now ∷ chain_up self.now class.now.superclass }
+    {
+        // Only for the proof: the chain is that of this class.
+        let _ = number;
+        let _ = class;
+        let _ = &self.hierarchy;
+    }
+
+    /// Returns the numbers of the classes, each after those of its superclass and its superinterfaces.
+    pub fn order(&self) -> &[usize]
+        ensures { All (λ n. n < length self.now) result.now }
+    {
+        self.hierarchy.order.as_slice()
     }
 
     /// Returns the classes with their order.

@@ -15,10 +15,7 @@ use jvms_program::program::{Class, Field, Method};
 pub fn declared_number(class: &Class, name: &[u16], descriptor: &[u16]) -> Option<usize>
     ensures { result ≡ declared_number class.now name.now descriptor.now }
 {
-    class.methods.as_slice().iter().position(|method| {
-        same_text(method.name.as_slice(), name)
-            && same_text(method.descriptor.as_slice(), descriptor)
-    })
+    class.methods.number_of(name, descriptor)
 }
 
 /// Decides whether a field has this name and descriptor.
@@ -33,11 +30,7 @@ pub(crate) fn is_field(field: &Field, name: &[u16], descriptor: &[u16]) -> bool
 pub fn declared_field_number(class: &Class, name: &[u16], descriptor: &[u16]) -> Option<usize>
     ensures { result ≡ declared_field_number class.now name.now descriptor.now }
 {
-    class
-        .fields
-        .as_slice()
-        .iter()
-        .position(|field| is_field(field, name, descriptor))
+    class.fields.number_of(name, descriptor)
 }
 
 /// Returns the class of a name, with its number.

@@ -6,8 +6,8 @@ use crate::fault::CaseFault;
 use crate::wanted::Outcome;
 use commands::Files;
 use commands::perform::perform;
+use fixtures::devices::{Cut, Short};
 use std::alloc::{AllocError, Global};
-use std::io::{self, ErrorKind, Read, Write};
 use std::marker::Brand;
 use std::rt::Clock;
 use std::sync::Wait;
@@ -39,57 +39,6 @@ pub(crate) struct Devices<'b> {
     /// The bytes of standard input.
     pub(crate) script: &'b [u8],
     pub(crate) room: Room,
-}
-
-/// A reader that returns `room` bytes, and then fails.
-#[derive(Drop)]
-struct Cut<'b> {
-    bytes: &'b [u8],
-    room: usize,
-}
-
-impl Read for Cut<'_> {
-    fn read(&mut self, buffer: &mut [u8]) -> io::Result<usize> {
-        if self.room == 0 {
-            return Err(ErrorKind::UnexpectedEof.into());
-        }
-        let most = buffer.len().min(self.room);
-        let count = self.bytes.read(&mut buffer[..most])?;
-        self.room = self.room.saturating_sub(count);
-        Ok(count)
-    }
-}
-
-/// A writer that accepts `room` bytes, and then fails.
-#[derive(Drop)]
-struct Short {
-    bytes: Vec<u8>,
-    room: usize,
-}
-
-impl Short {
-    fn new(alloc: Global, room: usize) -> Self {
-        Short {
-            bytes: Vec::new(alloc),
-            room,
-        }
-    }
-}
-
-impl Write for Short {
-    fn write(&mut self, buffer: &[u8]) -> io::Result<usize> {
-        let count = buffer.len().min(self.room);
-        if count == 0 {
-            return Err(ErrorKind::StorageFull.into());
-        }
-        self.bytes.extend_from_slice(&buffer[..count])?;
-        self.room -= count;
-        Ok(count)
-    }
-
-    fn flush(&mut self) -> io::Result<()> {
-        Ok(())
-    }
 }
 
 /// Returns the words of a command, which spaces separate. `''` is the empty word.
@@ -127,18 +76,15 @@ fn counted<
 {
     let alloc = rt.alloc();
     let Devices { script, room } = devices;
-    let reader = Cut {
-        bytes: script,
-        room: room.input,
-    };
+    let reader = Cut::new(script, room.input);
     let mut input = Counted::new(reader, Failures::<I>::none(input));
     let mut output = Counted::new(Short::new(alloc, room.output), Failures::<O>::none(output));
     let mut errors = Counted::new(Short::new(alloc, room.errors), Failures::<E>::none(errors));
     let status = perform(rt, words, files, &mut input, &mut output, &mut errors);
     Ok(Outcome {
         status,
-        output: output.inner().bytes.clone()?,
-        errors: errors.inner().bytes.clone()?,
+        output: output.inner().bytes().clone()?,
+        errors: errors.inner().bytes().clone()?,
     })
 }
 

@@ -1,5 +1,8 @@
 //! Reads the words of `campaign`.
 
+ghost use Rattle.std.specs.Prelude.{◌↔◌, IfOk, IsTrue};
+ghost use Rattle.command_line.specs.JobNumbers.{HasNumbers};
+
 use crate::entry::natural_of;
 use crate::fault::WordsFault;
 use crate::program_words::{ProgramWords, most_of, number_or, program_words};
@@ -38,12 +41,25 @@ pub struct CampaignWords<'a> {
     pub summary: bool,
 }
 
+/// Decides whether the last job's number is at most 18,446,744,073,709,551,615.
+fn has_numbers(first: u64, jobs: u64) -> bool
+    ensures { IsTrue result ↔ HasNumbers first jobs }
+{
+    match jobs.checked_sub(1) {
+        Some(further) => first.checked_add(further).is_some(),
+        None => true,
+    }
+}
+
 /// Returns the number of the first job. Refuses the words if a job's number is out of range.
-fn first_of(matches: &ArgMatches<'_>, jobs: u64) -> Result<u64, WordsFault> {
+fn first_of(matches: &ArgMatches<'_>, jobs: u64) -> Result<u64, WordsFault>
+    ensures { IfOk result (λ first. HasNumbers first jobs) }
+{
     let first = number_or(matches, FIRST, 0)?;
-    match first.checked_add(jobs) {
-        Some(_) => Ok(first),
-        None => Err(WordsFault::Words),
+    if has_numbers(first, jobs) {
+        Ok(first)
+    } else {
+        Err(WordsFault::Words)
     }
 }
 
@@ -51,7 +67,9 @@ fn first_of(matches: &ArgMatches<'_>, jobs: u64) -> Result<u64, WordsFault> {
 pub(crate) fn campaign_words<'a>(
     alloc: Global,
     matches: &ArgMatches<'a>,
-) -> Result<CampaignWords<'a>, WordsFault> {
+) -> Result<CampaignWords<'a>, WordsFault>
+    ensures { IfOk result (λ words. HasNumbers words.first words.jobs) }
+{
     let spec = matches.get_str(SPECIFICATION).ok_or(WordsFault::Words)?;
     let jobs = matches.get_str(JOBS).ok_or(WordsFault::Words)?;
     let jobs = natural_of(jobs).ok_or(WordsFault::Words)?;

@@ -13,7 +13,6 @@ use crate::refusals::explanation_of;
 use crate::syntax::{
     CHOICES, DOT, EXPLAIN, FILE, INPUT, OUTPUT, SCHEDULE, SERIAL, SPECIFICATION, TRACE, syntax,
 };
-use crate::words_help::words_text;
 use clap::ArgMatches;
 use jvms_machine::machine::Entry;
 use std::alloc::Global;
@@ -50,8 +49,8 @@ pub enum Command<'a> {
     Needs(NeedsWords<'a>),
     /// A help text: how the program or one command is used, or the meaning of a refusal's code.
     Help(&'static str),
-    /// A text that explains why words are refused.
-    Explain(String),
+    /// Why these words are no command line.
+    Explain(&'a [String]),
     /// The version of the program.
     Version,
 }
@@ -331,7 +330,7 @@ pub fn command_of<'a>(alloc: Global, words: &'a [String]) -> Result<Command<'a>,
     match (asked_text(words), explained_words(words)) {
         (Some(AskedText::Help(text)), _) => Ok(Command::Help(text)),
         (Some(AskedText::Version), _) => Ok(Command::Version),
-        (None, Some(words)) => Ok(Command::Explain(words_text(alloc, words)?)),
+        (None, Some(words)) => Ok(Command::Explain(words)),
         (None, None) => parsed(alloc, words),
     }
 }

@@ -365,9 +365,12 @@ Usage: jvmx asm IN OUT
   IN   the source, in UTF-8, of at most 67108864 bytes, whatever its name
   OUT  the class file, version 49.0, that is written. Its name isn't that of IN
 
-A refusal leaves OUT as it is: the class is written to OUT.part, which then
-takes the place of OUT. A symbolic link stays, and the file that it names is
-replaced. A device or a pipe gets the class as it is.
+A refusal leaves OUT as it is: the class is written to a fresh file beside it,
+whose name can't be guessed, and that takes the place of OUT. It has the mode
+of OUT, but the bits that set user and group only if OUT has the owner and the
+group of a new file. Other names of OUT, its hard links, keep the old file. A
+symbolic link stays, and the file that it names is replaced, or made if it
+isn't there. A device or a pipe gets the class as it is.
 
 Exit status: 0; 2 and 3 as jvmx --help says. jvmx help CODE explains the
 code of a refusal: J01 to J12 of a source's line, A01 to A08 of its class.

@@ -8,6 +8,7 @@ mod fault;
 mod help;
 mod program_words;
 mod refusals;
+mod screen;
 mod syntax;
 mod words_help;
 
@@ -21,4 +22,5 @@ pub use help::{
     PICTURE_HELP, RUN_HELP, TABLES_HELP, TRACE_HELP, VERSION,
 };
 pub use program_words::{ProgramNames, ProgramWords};
-pub use words_help::words_text;
+pub use screen::{shown_line, shown_lines};
+pub use words_help::{shown_words_text, words_text};

@@ -3,6 +3,7 @@
 use crate::command::{is_text, parsed};
 use crate::entry::{main_entry, natural_of, static_entry};
 use crate::fault::WordsFault;
+use crate::screen::shown_line;
 use crate::syntax::{ARGUMENTS, ENTRY, FIRST, JOBS, MOST, SEED, WORKERS, syntax};
 use clap::ArgMatches;
 use escapes::cut_twice;
@@ -197,19 +198,69 @@ fn is_help(words: &[String]) -> bool {
     }
 }
 
+/// Returns words as they are shown at a terminal.
+fn shown_words(alloc: Global, words: &[String]) -> Result<Vec<String>, AllocError> {
+    let mut shown = Vec::new(alloc);
+    for word in words {
+        shown.push(shown_line(alloc, word.as_str())?)?;
+    }
+    Ok(shown)
+}
+
+/// Returns the message with which the argument parser refuses words, given as a terminal shows them. A word with
+/// control characters names no option and no command, so the parser refuses the words themselves for the same reason.
+fn parser_text(alloc: Global, shown: &[String]) -> Result<String, WordsFault> {
+    match syntax(alloc)?.try_get_matches_from(shown) {
+        Err(error) => parser_line(alloc, &error),
+        Ok(_) => Ok(String::from_str(alloc, "no command line\n")?),
+    }
+}
+
+/// Returns a line as it is shown at a terminal.
+fn screen_line(alloc: Global, line: &str) -> Result<String, AllocError> {
+    let line = line.strip_suffix('\n').unwrap_or(line);
+    let mut shown = shown_line(alloc, line)?;
+    shown.push('\n')?;
+    Ok(shown)
+}
+
+/// Returns why a command's words are refused, if the argument parser accepts them.
+fn matched_line(alloc: Global, matches: &ArgMatches<'_>) -> Result<String, WordsFault> {
+    match matches.subcommand() {
+        Some((command, matches)) => command_line(alloc, command, matches),
+        None => Ok(String::from_str(alloc, "no command is named\n")?),
+    }
+}
+
+/// Returns a text about words which doesn't depend on what they are, if there is one.
+fn fixed_text(alloc: Global, words: &[String]) -> Result<Option<&'static str>, WordsFault> {
+    if is_text(words) || is_read(parsed(alloc, words))? {
+        return Ok(Some("these words are a command line\n"));
+    }
+    Ok(is_help(words).then_some(HELP_WANTED))
+}
+
 /// Returns why words are refused with P04, or that they are a command line.
 pub fn words_text(alloc: Global, words: &[String]) -> Result<String, WordsFault> {
-    if is_text(words) || is_read(parsed(alloc, words))? {
-        return Ok(String::from_str(alloc, "these words are a command line\n")?);
-    }
-    if is_help(words) {
-        return Ok(String::from_str(alloc, HELP_WANTED)?);
+    if let Some(text) = fixed_text(alloc, words)? {
+        return Ok(String::from_str(alloc, text)?);
     }
     match syntax(alloc)?.try_get_matches_from(words) {
         Err(error) => parser_line(alloc, &error),
-        Ok(matches) => match matches.subcommand() {
-            Some((command, matches)) => command_line(alloc, command, matches),
-            None => Ok(String::from_str(alloc, "no command is named\n")?),
-        },
+        Ok(matches) => matched_line(alloc, &matches),
+    }
+}
+
+/// Returns what `words_text` does, as it is shown at a terminal: without control characters but for its line ends.
+pub fn shown_words_text(alloc: Global, words: &[String]) -> Result<String, WordsFault> {
+    if let Some(text) = fixed_text(alloc, words)? {
+        return Ok(String::from_str(alloc, text)?);
+    }
+    match syntax(alloc)?.try_get_matches_from(words) {
+        Err(_) => parser_text(alloc, shown_words(alloc, words)?.as_slice()),
+        Ok(matches) => {
+            let line = matched_line(alloc, &matches)?;
+            Ok(screen_line(alloc, line.as_str())?)
+        }
     }
 }

@@ -4,3 +4,4 @@ pub mod Faults
 pub mod Limits
 pub mod Lines
 pub mod Missing
+pub mod Screen

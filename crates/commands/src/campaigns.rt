@@ -133,6 +133,7 @@ pub(crate) fn perform_campaign<
             first: parts.plan.first,
             seed,
             most,
+            is_shown: terminal.errors,
         };
         errors.write_all(unmatched_lines(alloc, &parts)?.as_bytes())?;
         errors.write_all(summary_of(alloc, words, &table)?.as_bytes())?;

@@ -2,8 +2,10 @@
 
 ghost use Rattle.std.specs.Prelude.{◌≡◌, ◌≤◌, ◌<◌, length, IfOk, IfSome, IsErrOf};
 
+use output_file::{OutputFault, write_output};
 use std::alloc::{AllocError, AllocFailed, Global};
-use std::io::{self, ErrorKind, Read, Write};
+use std::io::{self, ErrorKind, Read};
+use std::random::RandomSource;
 use std::{fs, rt};
 
 /// The maximum number of bytes of a file.
@@ -29,6 +31,15 @@ impl From<AllocError> for FileFault {
 impl<T: Drop> From<AllocFailed<T>> for FileFault {
     fn from(_error: AllocFailed<T>) -> FileFault {
         FileFault::Memory
+    }
+}
+
+impl From<OutputFault> for FileFault {
+    fn from(fault: OutputFault) -> FileFault {
+        match fault {
+            OutputFault::File => FileFault::File,
+            OutputFault::Memory => FileFault::Memory,
+        }
     }
 }
 
@@ -61,56 +72,19 @@ fn read_bounded<R: Read + Drop>(alloc: Global, reader: R) -> Result<Vec<u8>, Fil
     Ok(bytes)
 }
 
-/// Returns the name of the temporary file that is written first, so that a file is replaced as a whole.
-fn name_beside(alloc: Global, name: &str) -> Result<String, AllocError> {
-    format!(in alloc; "{name}.part")
-}
-
-/// Writes a temporary file, and renames it to the file's name.
-fn replace<R: rt::Files>(rt: &R, beside: &str, name: &str, bytes: &[u8]) -> io::Result<()> {
-    let mut file = fs::create(rt, beside)?;
-    file.write_all(bytes)?;
-    drop(file);
-    fs::rename(rt, beside, name)
-}
-
 /// The files of the operating system.
 #[derive(Drop)]
 pub struct SystemFiles<'r, R> {
     pub rt: &'r R,
 }
 
-impl<R: rt::Files + AllocGlobal> SystemFiles<'_, R> {
-    /// Makes a file, or replaces one as a whole. If that fails, a file that is there still has its bytes.
-    fn replace(&self, name: &str, bytes: &[u8]) -> Result<(), FileFault> {
-        let beside = name_beside(self.rt.alloc(), name)?;
-        match replace(self.rt, beside.as_str(), name, bytes) {
-            Ok(()) => Ok(()),
-            Err(error) => {
-                // What is beside it is of no use. If it can't be removed, that changes no answer.
-                let _removed = fs::remove_file(self.rt, beside.as_str());
-                Err(error.into())
-            }
-        }
-    }
-}
-
-impl<R: rt::Files + AllocGlobal> Files for SystemFiles<'_, R> {
+impl<R: rt::Files + RandomSource + AllocGlobal> Files for SystemFiles<'_, R> {
     fn read(&mut self, name: &str) -> Result<Vec<u8>, FileFault> {
         let file = fs::open(self.rt, name)?;
         read_bounded(self.rt.alloc(), file)
     }
 
     fn write(&mut self, name: &str, bytes: &[u8]) -> Result<(), FileFault> {
-        match fs::metadata(self.rt, name) {
-            // A symbolic link stays, and the file that it names is replaced.
-            Ok(found) if found.is_file() => {
-                let path = fs::canonicalize(self.rt, name)?;
-                self.replace(path.as_str(), bytes)
-            }
-            Err(_) if fs::symlink_metadata(self.rt, name).is_err() => self.replace(name, bytes),
-            // A device, a pipe, or a symbolic link that names nothing yet.
-            _ => Ok(fs::write(self.rt, name, bytes)?),
-        }
+        Ok(write_output(self.rt, name, bytes)?)
     }
 }

@@ -18,6 +18,7 @@ mod reading;
 mod refusal;
 pub mod run;
 mod running;
+mod screen;
 mod summary;
 mod tables;
 mod terminal;

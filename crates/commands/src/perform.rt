@@ -1,6 +1,10 @@
 //! The whole program, over named files, a reader and two writers.
 
+ghost use Rattle.std.specs.Prelude.{OnOk};
+ghost use Rattle.std.specs.Io.KnownBytes.{Appends};
+
 use crate::campaigns::perform_campaign;
+use crate::fault::RunFault;
 use crate::files::Files;
 use crate::limits::DEFAULT_LIMITS;
 use crate::needing::write_missing;
@@ -9,11 +13,13 @@ use crate::picturing::perform_picture;
 use crate::reading::{read_input, read_inputs, read_source, read_spec, read_text};
 use crate::refusal::Refusal;
 use crate::running::{is_cycle, perform_eval, perform_run, perform_trace};
+use crate::screen::{lines_for, write_refusal};
 use crate::tables::perform_tables;
 use crate::terminal::{Terminal, TerminalPrompt, source_files};
 use atom_spec::{Spec, SpecificationLine};
 use command_line::{
-    AsmWords, CheckWords, Command, NeedsWords, RunWords, VERSION, command_of, words_text,
+    AsmWords, CheckWords, Command, NeedsWords, RunWords, VERSION, command_of, shown_words_text,
+    words_text,
 };
 use debugger_script::{NoPrompt, Prompt};
 use debugging::debug;
@@ -130,11 +136,15 @@ fn perform_list<'w, F: Files, W: ByteOut>(
     file: &'w str,
     files: &mut F,
     output: &mut W,
+    terminal: Terminal,
 ) -> Result<u8, Refusal<'w>> {
     let input = read_input(files, file)?;
     let class = class_in(alloc, file, &input)?;
     match list(alloc, &class) {
-        Ok(text) => print(output, text.as_str()),
+        Ok(text) => {
+            let lines = lines_for(alloc, terminal.output, text)?;
+            print(output, lines.as_str())
+        }
         Err(fault) => Err(Refusal::List { file, fault }),
     }
 }
@@ -162,8 +172,25 @@ fn perform_needs<'w, F: Files, W: ByteOut>(
     }
 }
 
+/// Prints why words are no command line, for `help P04`.
+fn explain<'w, W: ByteOut>(
+    alloc: Global,
+    words: &[String],
+    output: &mut W,
+    terminal: Terminal,
+) -> Result<u8, Refusal<'w>> {
+    let text = if terminal.output {
+        shown_words_text(alloc, words)?
+    } else {
+        words_text(alloc, words)?
+    };
+    print(output, text.as_str())
+}
+
 /// Prints a text.
-fn print<'w, W: ByteOut>(output: &mut W, text: &str) -> Result<u8, Refusal<'w>> {
+fn print<'w, W: ByteOut>(output: &mut W, text: &str) -> Result<u8, Refusal<'w>>
+    ensures { OnOk result (Appends (W.written output.old) (W.written output.new) text.now) }
+{
     output.write_all(text.as_bytes())?;
     Ok(0)
 }
@@ -199,28 +226,40 @@ fn command<
         Command::Check(words) => perform_check(alloc, &words, files, output),
         Command::Picture(words) => perform_picture(alloc, &words, files, output),
         Command::Asm(words) => perform_asm(alloc, words, files),
-        Command::List(file) => perform_list(alloc, file, files, output),
+        Command::List(file) => perform_list(alloc, file, files, output, terminal),
         Command::Tables(words) => perform_tables(alloc, &words, files, output),
         Command::Needs(words) => perform_needs(alloc, &words, files, output),
         Command::Help(text) => print(output, text),
-        Command::Explain(text) => print(output, text.as_str()),
+        Command::Explain(words) => explain(alloc, words, output, terminal),
         Command::Version => print(output, VERSION),
     }
 }
 
 /// Prints the line of a refusal and returns the exit status. If the line can't be printed whole, the status is that of
 /// a failed device.
-fn refuse<E: ByteOut>(alloc: Global, refusal: &Refusal<'_>, errors: &mut E) -> u8 {
-    let (written, status) = match format!(in alloc; "jvmx: {refusal}\n") {
-        Ok(line) => (errors.write_all(line.as_bytes()), refusal.status()),
-        Err(_) => (errors.write_all(b"jvmx: Memory\n"), 3),
+fn refuse<E: ByteOut>(
+    alloc: Global,
+    refusal: &Refusal<'_>,
+    errors: &mut E,
+    terminal: Terminal,
+) -> u8 {
+    let written = match format!(in alloc; "{refusal}") {
+        Ok(text) => write_refusal(alloc, terminal.errors, text.as_str(), errors),
+        Err(error) => Err(error.into()),
     };
-    if written.is_ok() { status } else { 3 }
+    match written {
+        Ok(()) => refusal.status(),
+        Err(RunFault::Output) => 3,
+        Err(_) => {
+            let _written = errors.write_all(b"jvmx: Memory\n");
+            3
+        }
+    }
 }
 
 /// Shows why words are no command line, after the line that refuses them. Ignores a failure to show it.
 fn explain_words<E: ByteOut>(alloc: Global, words: &[String], errors: &mut E) {
-    if let Ok(text) = words_text(alloc, words) {
+    if let Ok(text) = shown_words_text(alloc, words) {
         let _shown = errors.write_all(text.as_bytes());
     }
 }
@@ -239,7 +278,8 @@ pub fn perform<
 }
 
 /// Runs the program as `perform` does. A person at a terminal sees more on standard error: prompts and hints of
-/// `debug`, the progress and a summary of `campaign`, and why words are refused.
+/// `debug`, the progress and a summary of `campaign`, and why words are refused. What a terminal shows of names in
+/// words and classes has no control characters.
 pub fn perform_at<
     R: AllocGlobal + Clock + Eprint + Threads + Wait + Sync,
     F: Files,
@@ -259,7 +299,7 @@ pub fn perform_at<
     match command(rt, alloc, words, files, input, output, errors, terminal) {
         Ok(status) => status,
         Err(refusal) => {
-            let status = refuse(alloc, &refusal, errors);
+            let status = refuse(alloc, &refusal, errors, terminal);
             if terminal.errors && matches!(refusal, Refusal::Words) {
                 explain_words(alloc, words, errors);
             }

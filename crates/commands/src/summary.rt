@@ -1,7 +1,7 @@
 //! Makes the summary of a campaign: the commands that run some of its jobs again.
 
 use campaigning::{JobResult, Table};
-use command_line::ProgramNames;
+use command_line::{ProgramNames, shown_line};
 use machine::Status;
 use machine_text::status_name;
 use std::alloc::{AllocError, Global};
@@ -17,6 +17,8 @@ pub(crate) struct JobWords<'n, 'w> {
     pub seed: u64,
     /// The word for the maximum number of turns of a job, if there is one.
     pub most: Option<&'w str>,
+    /// `true` if a terminal shows the commands.
+    pub is_shown: bool,
 }
 
 impl JobWords<'_, '_> {
@@ -103,21 +105,60 @@ fn put_quoted(text: &mut String, word: &str) -> Result<(), AllocError> {
     text.push('\'')
 }
 
+/// Appends a word as bash reads it in `$'..'`, with each control character as `\u` and four hexadecimal digits.
+fn put_escaped(alloc: Global, text: &mut String, word: &str) -> Result<(), AllocError> {
+    let mut inside = String::new(alloc);
+    for c in word.chars() {
+        if c == '\'' || c == '\\' {
+            inside.push('\\')?;
+        }
+        inside.push(c)?;
+    }
+    text.push_str("$'")?;
+    text.push_str(shown_line(alloc, inside.as_str())?.as_str())?;
+    text.push('\'')
+}
+
+/// Appends a word, as a shell reads it. A terminal is given no control characters.
+fn put_word(
+    alloc: Global,
+    text: &mut String,
+    word: &str,
+    is_shown: bool,
+) -> Result<(), AllocError> {
+    if is_shown && word.chars().any(|c| c.is_control()) {
+        put_escaped(alloc, text, word)
+    } else {
+        put_quoted(text, word)
+    }
+}
+
 /// Appends an option and its value. A value that begins with `-` is joined to it.
-fn put_option(text: &mut String, option: &str, value: &str) -> Result<(), AllocError> {
+fn put_option(
+    alloc: Global,
+    text: &mut String,
+    option: &str,
+    value: &str,
+    is_shown: bool,
+) -> Result<(), AllocError> {
     text.push_str(option)?;
     text.push_str(if value.starts_with('-') { "=" } else { " " })?;
-    put_quoted(text, value)
+    put_word(alloc, text, value, is_shown)
 }
 
 /// Appends the FILEs. If one begins with `-`, they follow `--`.
-fn put_files(text: &mut String, files: &[&str]) -> Result<(), AllocError> {
+fn put_files(
+    alloc: Global,
+    text: &mut String,
+    files: &[&str],
+    is_shown: bool,
+) -> Result<(), AllocError> {
     if files.iter().any(|file| file.starts_with('-')) {
         text.push_str(" --")?;
     }
     for file in files {
         text.push(' ')?;
-        put_quoted(text, file)?;
+        put_word(alloc, text, file, is_shown)?;
     }
     Ok(())
 }
@@ -130,21 +171,21 @@ fn command_line(
     spec: Option<&str>,
     number: u64,
 ) -> Result<String, AllocError> {
-    let seed = words.seed;
+    let (seed, is_shown) = (words.seed, words.is_shown);
     let mut line = format!(in alloc; "  jvmx {command}")?;
-    put_option(&mut line, " --entry", words.names.entry)?;
+    put_option(alloc, &mut line, " --entry", words.names.entry, is_shown)?;
     if let Some(arguments) = words.names.arguments {
-        put_option(&mut line, " --args", arguments)?;
+        put_option(alloc, &mut line, " --args", arguments, is_shown)?;
     }
     let schedule = format!(in alloc; " --sched seed:{seed}:{number}")?;
     line.push_str(schedule.as_str())?;
     if let Some(most) = words.most {
-        put_option(&mut line, " --max", most)?;
+        put_option(alloc, &mut line, " --max", most, is_shown)?;
     }
     if let Some(spec) = spec {
-        put_option(&mut line, " --spec", spec)?;
+        put_option(alloc, &mut line, " --spec", spec, is_shown)?;
     }
-    put_files(&mut line, words.names.files.as_slice())?;
+    put_files(alloc, &mut line, words.names.files.as_slice(), is_shown)?;
     line.push('\n')?;
     Ok(line)
 }

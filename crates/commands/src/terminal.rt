@@ -1,5 +1,6 @@
 //! What a person at a terminal sees on standard error in a session of the debugger.
 
+use command_line::shown_line;
 use debugger::Session;
 use debugger_script::Prompt;
 use inputs::Input;
@@ -16,6 +17,8 @@ use trace::ByteOut;
 pub struct Terminal {
     /// `true` if standard input is a terminal.
     pub input: bool,
+    /// `true` if standard output is a terminal.
+    pub output: bool,
     /// `true` if standard error is a terminal.
     pub errors: bool,
 }
@@ -24,6 +27,7 @@ impl Terminal {
     /// The case that no standard device is a terminal.
     pub const NONE: Terminal = Terminal {
         input: false,
+        output: false,
         errors: false,
     };
 
@@ -93,6 +97,7 @@ pub(crate) fn source_files(alloc: Global, inputs: &[Input]) -> Vec<ClassFile> {
 
 /// Returns the first line of a session.
 fn greeting(alloc: Global, schedule: &str, turns: usize) -> Result<String, AllocError> {
+    let schedule = shown_line(alloc, schedule)?;
     format!(in alloc;
         "{turns} turns by schedule {schedule}. jvmx help debug lists the commands. Ctrl-D ends the session.\n"
     )

@@ -55,7 +55,7 @@ module _ (program : List Class) (limits : Limits) (s : State) (t : ℕ) (thread 
   throws_is class = throws_known program limits s s thread class
 
   tests : IsOfTests limits s thread Known
-  tests = record { unmade = λ o. tt; thrown_by = throws_is; begun_by = λ class. tt }
+  tests = record { unmade = λ o. tt; thrown_by = throws_is; begun_by = λ class begins. tt }
 
   deep : (frame : MethodFrame) (takes gives : ℕ) (rest : TurnDecision) → Known rest → Known (if_deep frame takes gives rest)
   deep = if_deep_has program limits s t thread Known tests

@@ -67,7 +67,7 @@ module _ (program : List Class) (limits : Limits) (s : State) (t : ℕ) (thread 
   throws_is class = throws_known program limits s s thread class
 
   tests : IsOfTests limits s thread Known
-  tests = record { unmade = λ o. tt; thrown_by = throws_is; begun_by = λ class. tt }
+  tests = record { unmade = λ o. tt; thrown_by = throws_is; begun_by = λ class begins. tt }
 
   asked : (class : ℕ) (continued : TurnDecision) → Known continued → Known (class_use_decision program limits s t thread class continued)
   asked = class_use_has program limits s t thread Known tests

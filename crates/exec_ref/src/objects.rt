@@ -1,10 +1,11 @@
 //! Objects of classes, strings and class objects (JVMS 6.5 `new`, `checkcast`, `instanceof`, `ldc`).
 
-ghost use Rattle.std.specs.Prelude.{◌≡◌, ◌+◌, ◌<◌, ◌≤◌, ◌^◌, ◌∷◌, Bool, [], Some, false, length};
+ghost use Rattle.std.specs.Prelude.{◌≡◌, ◌+◌, ◌<◌, ◌≤◌, ◌^◌, ◌∷◌, Bool, [], IfSome, Some, false, length, true};
 ghost use Rattle.std.specs.Option.{option_map};
 ghost use Rattle.jvms_file.specs.declared.insn.ClassUse.TheVariants as class_use;
 ghost use Rattle.jvms_program.specs.declared.program.Instruction.TheVariants as instruction;
 ghost use Rattle.jvms_program.specs.Program.{class_named, class_number};
+ghost use Rattle.jvms_program.specs.Resolution.{class_exists, fits};
 ghost use Rattle.jvms_machine.specs.Decisions.{TurnDecision};
 ghost use Rattle.jvms_machine.specs.Arrays.{if_deep};
 ghost use Rattle.jvms_machine.specs.Objects.{is_instantiable, creation_if_room, instance_of_number, new_instance_decision, with_class_of, cast, instance_test_result, existing_or_new, class_decision, loadable_decision};
@@ -17,9 +18,11 @@ ghost use Rattle.jvms_machine.specs.State.{class_reference, text_reference};
 ghost use Rattle.machine_parts.specs.Decided.{decision_value, object_value};
 ghost use Rattle.machine_parts.specs.Sites.{IsSite};
 ghost use Rattle.exec_ref.specs.InstanceTests.{by_instance_test};
+ghost use Rattle.heap.specs.Objects.{IsNumberOf};
 
 use crate::arrays::{creation_decision, new_class_array_decision};
 use frames::Frame;
+use heap::ObjectClass;
 use jvms_file::insn::ClassUse;
 use jvms_machine::action::{Effect, FrameAction, NewObject};
 use jvms_machine::machine::{BadCause, ThreadId};
@@ -29,6 +32,7 @@ use jvms_program::program::{Class, ClassKind, Loadable};
 use jvms_program::thrown::Thrown;
 use machine_parts::{ActionText, Decided, Parts, bad, has_depth, never_seen, next_action, reaches};
 use machine_thread::Thread;
+use program::Program;
 use shared_data::shared::Text;
 
 /// The result of testing the topmost operand against a class.
@@ -136,37 +140,70 @@ fn new_instance_decision<'p>(
     }
 }
 
-/// Tests the object of a reference against a named class, which is resolved first.
+/// Tests the class of an object against the class that the instruction of a frame names. Returns `None` if the number of
+/// one of them isn't known.
+fn test_by_number(
+    program: &Program,
+    frame: &Frame,
+    how: ClassUse,
+    name: &[u16],
+    class: ObjectClass<'_>,
+) -> Option<bool>
+    requires site { IsSite program.now frame.now (instruction.Class how name.now) }
+    requires number { IsNumberOf program.now class.number class.name.now }
+    ensures there { IfSome result (λ is. class_exists program.now name.now ≡ true) }
+    ensures fits { IfSome result (λ is. is ≡ fits program.now class.entry.name.now name.now) }
+{
+    let number = class.number?;
+    let above = program.class_number_at(frame.method(), frame.place(), how, name)?;
+    Some(program.is_subclass(number, above))
+}
+
+/// Tests the object of a reference against the class that the instruction of a frame names, which is resolved first.
 fn test_object<'p>(
     parts: &Parts<'p>,
     thread: &Thread,
+    frame: &Frame,
+    how: ClassUse,
     name: &[u16],
     reference: u32,
 ) -> InstanceTest<'p>
+    requires { IsSite parts.now.program frame.now (instruction.Class how name.now) }
     ensures { (null : TurnDecision) → (on_result : Bool → TurnDecision)
         → by_instance_test null on_result result ≡ with_class_of parts.now.program parts.now.limits
         parts.now.state thread.now name.now (value.Reference reference ∷ []) null on_result }
 {
-    let Some(class) = parts.heap.class_of(reference) else {
+    let Some(class) = parts.heap.object_class(reference) else {
         return InstanceTest::Stops(never_seen());
     };
-    if parts.program().has_class(name) {
-        InstanceTest::IsInstance(parts.program().fits(class, name))
+    let program = parts.program();
+    if let Some(is_instance) = test_by_number(program, frame, how, name, class) {
+        InstanceTest::IsInstance(is_instance)
+    } else if program.has_class(name) {
+        InstanceTest::IsInstance(class.fits(program, name))
     } else {
         InstanceTest::Stops(parts.throws(thread, Thrown::NoClassDefFoundError))
     }
 }
 
-/// Tests the topmost operand against a named class. Null is tested before the class is resolved.
-fn test_top<'p>(parts: &Parts<'p>, thread: &Thread, frame: &Frame, name: &[u16]) -> InstanceTest<'p>
-    requires { 1 ≤ length frame.now.activation.operands }
+/// Tests the topmost operand against the class that the instruction of a frame names. Null is tested before the class is
+/// resolved.
+fn test_top<'p>(
+    parts: &Parts<'p>,
+    thread: &Thread,
+    frame: &Frame,
+    how: ClassUse,
+    name: &[u16],
+) -> InstanceTest<'p>
+    requires depth { 1 ≤ length frame.now.activation.operands }
+    requires site { IsSite parts.now.program frame.now (instruction.Class how name.now) }
     ensures { (null : TurnDecision) → (on_result : Bool → TurnDecision)
         → by_instance_test null on_result result ≡ with_class_of parts.now.program parts.now.limits
         parts.now.state thread.now name.now frame.now.activation.operands null on_result }
 {
     match frame.top() {
         Value::Null => InstanceTest::Null,
-        Value::Reference(reference) => test_object(parts, thread, name, reference),
+        Value::Reference(reference) => test_object(parts, thread, frame, how, name, reference),
         Value::Int(_) | Value::Long(_) | Value::Second | Value::ReturnAddress(_) | Value::Unset => {
             InstanceTest::Stops(bad(BadCause::Kind))
         }
@@ -175,7 +212,9 @@ fn test_top<'p>(parts: &Parts<'p>, thread: &Thread, frame: &Frame, name: &[u16])
 
 /// Decides JVMS 6.5 `checkcast`. The object stays on the operand stack.
 fn cast_decision<'p>(parts: &Parts<'p>, thread: &Thread, frame: &Frame, name: &[u16]) -> Decided<'p>
-    requires { frame.now.activation.place + 1 < 2 ^ 64 }
+    requires place { frame.now.activation.place + 1 < 2 ^ 64 }
+    requires site { IsSite parts.now.program frame.now
+        (instruction.Class class_use.CheckCast name.now) }
     ensures { decision_value result ≡ if_deep frame.now 1 1
         (with_class_of parts.now.program parts.now.limits parts.now.state thread.now name.now
         frame.now.activation.operands (reaches effect.Nothing (next_action 0 frame.now.activation))
@@ -184,7 +223,7 @@ fn cast_decision<'p>(parts: &Parts<'p>, thread: &Thread, frame: &Frame, name: &[
     if !has_depth(frame, 1, 1) {
         return bad(BadCause::Depth);
     }
-    match test_top(parts, thread, frame, name) {
+    match test_top(parts, thread, frame, ClassUse::CheckCast, name) {
         InstanceTest::Stops(decision) => decision,
         InstanceTest::Null | InstanceTest::IsInstance(true) => reaches(
             Effect::Nothing,
@@ -201,6 +240,8 @@ fn instance_test_decision<'p>(
     frame: &Frame,
     name: &[u16],
 ) -> Decided<'p>
+    requires { IsSite parts.now.program frame.now
+        (instruction.Class class_use.InstanceOf name.now) }
     ensures { decision_value result ≡ if_deep frame.now 1 1
         (with_class_of parts.now.program parts.now.limits parts.now.state thread.now name.now
         frame.now.activation.operands (instance_test_result false) instance_test_result) }
@@ -208,7 +249,7 @@ fn instance_test_decision<'p>(
     if !has_depth(frame, 1, 1) {
         return bad(BadCause::Depth);
     }
-    match test_top(parts, thread, frame, name) {
+    match test_top(parts, thread, frame, ClassUse::InstanceOf, name) {
         InstanceTest::Stops(decision) => decision,
         InstanceTest::Null => instance_test_result(false),
         InstanceTest::IsInstance(is_instance) => instance_test_result(is_instance),

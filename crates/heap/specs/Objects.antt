@@ -1,5 +1,5 @@
 -- The parts of objects, and stores into them by slots.
-use Rattle.std.specs.Prelude.{◌≡◌, ℕ, true, drop, zero, suc, List, [], ◌∷◌, ◌++◌, ◌+◌, length, Option, Some, None, IsSome, slice_get}
+use Rattle.std.specs.Prelude.{◌≡◌, ℕ, true, drop, zero, suc, List, [], ◌∷◌, ◌++◌, ◌+◌, length, Option, Some, None, IfSome, IsSome, slice_get}
 use Rattle.std.specs.Option.{option_and_then, option_map}
 use Rattle.jvms_file.specs.declared.insn.ArrayKind.{ArrayKind}
 use Rattle.jvms_program.specs.declared.program.Class.{Class}
@@ -11,6 +11,7 @@ use Rattle.jvms_machine.specs.Arrays.{serves}
 use Rattle.jvms_machine.specs.Heap.{component_type, stored_as, value_of}
 use Rattle.array_elements.specs.declared.kind.Kind.TheVariants as kind
 use Rattle.array_elements.specs.Kinds.{kind_of, IsOfKind}
+use Rattle.heap.specs.Stored.{name_at}
 
 -- Returns the class of the object of a reference.
 abbrev pub class_at : List Object → ℕ → Option (List ℕ)
@@ -29,6 +30,10 @@ IfThere P (Some o) = P o
 abbrev pub instance_class : Object → Option (List ℕ)
 instance_class (instance class fields) = Some class
 instance_class _ = None
+
+-- The number, if there is one, is that of the class of this name.
+abbrev pub IsNumberOf : List Class → Option ℕ → List ℕ → Type 0
+IsNumberOf program number name = IfSome number (λ n. name_at program n ≡ name)
 
 -- Returns the class of an array.
 abbrev pub array_class : Object → Option (List ℕ)

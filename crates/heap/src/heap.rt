@@ -6,9 +6,10 @@ ghost use Rattle.jvms_program.specs.declared.key.FieldKey.{FieldKey};
 ghost use Rattle.jvms_machine.specs.declared.value.Value.{Value};
 ghost use Rattle.jvms_machine.specs.State.{instance, instance_fields, keys, object_at, text_reference, class_reference};
 ghost use Rattle.jvms_machine.specs.Heap.{array_of_type, with_element, with_object};
-ghost use Rattle.heap.specs.Objects.{IfThere, Loads, Stores, Suits, class_at, object_part, instance_class, array_class, length_of, element_of, units_of, named_by, value_in, with_slot};
+ghost use Rattle.heap.specs.Objects.{IfThere, IsNumberOf, Loads, Stores, Suits, class_at, object_part, instance_class, array_class, length_of, element_of, units_of, named_by, value_in, with_slot};
 ghost use Rattle.heap.specs.Stored.{name_at, object_of, IsKept};
 
+use crate::object_class::ObjectClass;
 use crate::primitive_arrays::PrimitiveArrays;
 use crate::stored_object::StoredObject;
 use jvms_file::insn::{ArrayKind, ArrayType};
@@ -111,6 +112,19 @@ impl<'p> Heap<'p> {
     {
         let object = self.object(reference)?;
         Some(object.class_name(self.program))
+    }
+
+    /// Returns the class of the object of a reference, with its number if the object is an instance.
+    pub fn object_class(&self, reference: u32) -> Option<ObjectClass<'_>>
+        ensures name { option_map (λ c. c.name.now) result ≡ class_at self.now.objects reference }
+        ensures number { IfSome result
+            (λ c. IsNumberOf self.now.program c.number c.name.now) }
+    {
+        let object = self.object(reference)?;
+        Some(ObjectClass {
+            name: object.class_name(self.program),
+            number: object.instance_class(),
+        })
     }
 
     /// Returns the number of the class of an instance.

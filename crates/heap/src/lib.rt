@@ -10,6 +10,7 @@ pub mod laws;
 mod making;
 mod named_fields;
 mod numbered_fields;
+mod object_class;
 mod opening;
 mod primitive_arrays;
 mod saved;
@@ -18,5 +19,6 @@ mod stored_object;
 mod texts;
 
 pub use heap::Heap;
+pub use object_class::ObjectClass;
 pub use saved::SavedHeap;
 pub use statics::Statics;

@@ -1,2 +1,3 @@
 pub mod FrequentLaws
+pub mod MemberOrderLaws
 pub mod ProgramLaws

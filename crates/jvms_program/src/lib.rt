@@ -8,6 +8,7 @@ pub mod frequent;
 pub mod instructions;
 pub mod key;
 pub mod laws;
+pub mod members;
 pub mod number;
 pub mod program;
 pub mod thrown;

@@ -2,6 +2,7 @@
 
 use crate::case_table::CaseTable;
 use crate::instructions::Instructions;
+use crate::members::Members;
 use jvms_file::descriptor::{FieldType, MethodType};
 use jvms_file::insn::{Branch, ClassUse, FieldUse, Invoke, Simple, TableSwitch};
 use shared_data::boxed::Boxed;
@@ -132,6 +133,6 @@ pub struct Class {
     pub kind: ClassKind,
     pub superclass: Option<Text>,
     pub interfaces: Items<Text>,
-    pub fields: Items<Field>,
-    pub methods: Items<Method>,
+    pub fields: Members<Field>,
+    pub methods: Members<Method>,
 }

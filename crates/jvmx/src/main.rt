@@ -27,6 +27,7 @@ fn words_of(rt: &HostRuntime) -> Result<Vec<String>, WordsFault> {
 fn terminal_of(rt: &HostRuntime) -> Terminal {
     Terminal {
         input: rt.stdin().is_terminal(),
+        output: rt.stdout().is_terminal(),
         errors: rt.stderr().is_terminal(),
     }
 }

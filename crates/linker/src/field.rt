@@ -7,8 +7,8 @@ use crate::loadable::loadable_of;
 use crate::texts::Texts;
 use descriptor::Flags;
 use jvms_file::class_file::{FieldAttribute, FieldInfo};
+use jvms_program::members::Members;
 use jvms_program::program::{Field, Loadable};
-use shared_data::items::Items;
 use std::alloc::{AllocError, Global};
 
 /// Returns the constant that the first ConstantValue among attributes names (JVMS 4.7.2), if there is one.
@@ -47,12 +47,12 @@ pub(crate) fn fields_of(
     texts: &Texts,
     in_interface: bool,
     infos: &[FieldInfo],
-) -> Result<Items<Field>, AllocError>
+) -> Result<Members<Field>, AllocError>
     ensures { IfOk result (λ fs. fs ≡ map (field_of texts.now in_interface) infos.now) }
 {
     let mut fields = Vec::with_capacity(alloc, infos.len())?;
     for info in infos {
         fields.push(field_of(texts, in_interface, info)?)?;
     }
-    Ok(Items::from_vec(fields))
+    Members::from_vec(alloc, fields)
 }

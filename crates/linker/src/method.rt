@@ -10,6 +10,7 @@ use const_pool::Pool;
 use descriptor::{Flags, is_initializer_name};
 use jvms_file::class_file::MethodInfo;
 use jvms_program::attributes::exceptions_of;
+use jvms_program::members::Members;
 use jvms_program::program::{Method, MethodFlags};
 use shared_data::items::Items;
 use std::alloc::{AllocError, Global};
@@ -59,12 +60,12 @@ pub(crate) fn methods_of(
     alloc: Global,
     texts: &Texts,
     infos: Items<MethodInfo>,
-) -> Result<Items<Method>, AllocError>
+) -> Result<Members<Method>, AllocError>
     ensures { IfOk result (λ ms. ms ≡ map (method_of texts.now) infos) }
 {
     let mut methods = Vec::with_capacity(alloc, infos.len())?;
     for info in infos.into_vec() {
         methods.push(method_of(alloc, texts, &info)?)?;
     }
-    Ok(Items::from_vec(methods))
+    Members::from_vec(alloc, methods)
 }

@@ -16,7 +16,8 @@ use Rattle.jvms_program.specs.declared.program.Class.{Class}
 use Rattle.jvms_machine.specs.declared.value.Value.{Value}
 use Rattle.jvms_file.specs.declared.descriptor.FieldType.{FieldType}
 use Rattle.jvms_machine.specs.Actions.{constant_value, with_constants}
-use Rattle.machine_parts.specs.Constants.{text_constant, constant_text, has_constant_text, is_new, is_new_text, with_text, text_where, text_to_make, text_value}
+use Rattle.program.specs.FieldTexts.{text_constant, constant_text, has_constant_text, is_not_among}
+use Rattle.machine_parts.specs.Constants.{is_new, is_new_text, with_text, text_where, text_to_make, text_value}
 
 -- ---- One more string
 
@@ -135,6 +136,18 @@ texts_further heap fields i f within there =
     let further : take (i + 1) fields ≡ take i fields ++ f ∷ [] =
     ap (λ k. take k fields) (add-one i) ∙ take-suc fields i f within ∙ ap (λ g. take i fields ++ g ∷ []) (sym there) in
     ap (texts heap) further ∙ one_more f heap (take i fields)
+
+-- A string that has no object yet is new if the field is the first with it.
+pub new_if_first : (heap : List Object) (before : List Field) (f : Field) (units : List ℕ) (exists first : Bool) → Some units ≡ constant_text f → exists ≡ is_some (text_reference heap units) → exists ≡ false
+    → first ≡ is_not_among before (constant_text f) → first ≡ is_new_text heap before f
+new_if_first heap before f units exists first some there new is =
+    is ∙ ap (is_not_among before) (sym some) ∙ sym (ap (λ b. b && is_not_among before (Some units)) (ap not (sym there ∙ new))) ∙ ap (is_new heap before) some
+
+-- A string that has an object isn't new.
+pub not_new : (heap : List Object) (before : List Field) (f : Field) (units : List ℕ) (exists : Bool) → Some units ≡ constant_text f → exists ≡ is_some (text_reference heap units) → exists ≡ true
+    → not exists ≡ is_new_text heap before f
+not_new heap before f units exists some there old =
+    ap not old ∙ sym (ap (λ b. b && is_not_among before (Some units)) (ap not (sym there ∙ old))) ∙ ap (is_new heap before) some
 
 -- ---- The number of strings
 

@@ -1,29 +1,13 @@
 -- The strings that the initialisation of a class stores in its static fields, field by field.
 use Rattle.std.specs.Prelude.{ℕ, Bool, true, false, not, ◌&&◌, List, [], ◌∷◌, ◌++◌, Option, Some, None, is_some}
 use Rattle.std.specs.List.{list_any}
-use Rattle.jvms_file.specs.Names.{same_text}
 use Rattle.jvms_program.specs.declared.program.Field.{Field}
-use Rattle.jvms_program.specs.declared.program.Loadable.{Loadable}
-use Rattle.jvms_program.specs.declared.program.Loadable.TheVariants as loadable
 use Rattle.jvms_machine.specs.declared.value.Value.{Value}
 use Rattle.jvms_machine.specs.declared.value.Value.TheVariants as value
+use Rattle.program.specs.FieldTexts.{constant_text, has_constant_text}
 use Rattle.jvms_machine.specs.State.{Object, text_reference}
 
--- Returns the units of a static field's constant, if it is a string.
-abbrev pub text_constant : Bool → Option Loadable → Option (List ℕ)
-text_constant true (Some (loadable.String units)) = Some units
-text_constant _ _ = None
-
-abbrev pub constant_text : Field → Option (List ℕ)
-constant_text f = text_constant f.is_static f.constant
-
-abbrev pub is_same : List ℕ → Option (List ℕ) → Bool
-is_same units None = false
-is_same units (Some text) = same_text text units
-
-abbrev pub has_constant_text : List ℕ → Field → Bool
-has_constant_text units f = is_same units (constant_text f)
-
+-- Decides whether a string has no object yet, and none of these fields has it.
 abbrev pub is_new : List Object → List Field → Option (List ℕ) → Bool
 is_new heap before None = false
 is_new heap before (Some units) = not (is_some (text_reference heap units)) && not (list_any (has_constant_text units) before)

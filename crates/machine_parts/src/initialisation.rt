@@ -48,7 +48,7 @@ impl<'p> Parts<'p> {
         let Some(c) = self.program().class(class) else {
             return never_seen();
         };
-        if !self.has_room_for(self.new_texts(c)) {
+        if !self.has_room_for(self.new_texts(class, c)) {
             return self.throws(thread, Thrown::OutOfMemoryError);
         }
         if self.limits.frames as usize <= thread.height() {

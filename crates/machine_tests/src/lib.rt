@@ -1,6 +1,6 @@
-//! Tests of programs, the machine and its parts. They are in a crate above the tested ones, so that each of those is
-//! proved once. Expected values are from the Java Virtual Machine Specification (JVMS), never from the program's
-//! answers.
+//! Tests of programs, the machine and its parts, and of the debugger's sessions. They are in a crate above the tested
+//! ones, so that each of those is proved once. Expected values are from the Java Virtual Machine Specification (JVMS),
+//! never from the program's answers.
 //!
 //! Only what no clause states is tested: that the definitions agree with the specification, and that public calls
 //! succeed with ample memory. The data of `row_cases` tests the rules of instructions turn by turn, and the data of
@@ -23,3 +23,5 @@ mod printed;
 mod programs;
 #[cfg(test)]
 mod results;
+#[cfg(test)]
+mod sessions;

@@ -1,3 +1,4 @@
 pub mod LineLaws
 pub mod OutsideLaws
 pub mod Resolved
+pub mod UnmatchedLaws

@@ -1,9 +1,11 @@
 pub mod TableLaws
 pub mod LinkLaws
-pub mod InterfaceLaws
+pub mod SubclassLaws
+pub mod PersistentArrayLaws
 pub mod SignatureLaws
 pub mod SelectLaws
-pub mod SelectionLaws
+pub mod DispatchLaws
 pub mod SpecialLaws
 pub mod ResolutionLaws
 pub mod FieldSlotLaws
+pub mod FirstTextLaws

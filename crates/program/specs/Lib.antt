@@ -1,5 +1,6 @@
+pub mod FieldTexts
+pub mod PersistentArrays
 pub mod Resolutions
-pub mod Selecting
 pub mod Selections
 pub mod Signatures
 pub mod Tables

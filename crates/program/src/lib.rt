@@ -7,3 +7,4 @@ mod tables;
 
 pub use classes::{FieldName, Slot};
 pub use list::Program;
+pub use tables::first_texts::constant_text;

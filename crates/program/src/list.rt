@@ -4,7 +4,7 @@ ghost use Rattle.std.specs.Prelude.{◌≡◌, IfOk, IsOk, None, false, option_c
 ghost use Rattle.std.specs.Option.{option_map, unwrap_or};
 ghost use Rattle.jvms_program.specs.BuiltIn.{is_built_in};
 ghost use Rattle.jvms_program.specs.Program.{IsProgram, class_named, class_number, method_at, key_of};
-ghost use Rattle.jvms_program.specs.Resolution.{class_exists, fits};
+ghost use Rattle.jvms_program.specs.Resolution.{class_exists};
 
 use crate::tables::{Tables, tables_of};
 use classes::Classes;
@@ -119,12 +119,5 @@ impl Program {
         ensures { result ≡ class_exists self.now name.now }
     {
         self.by_name.has_class(name)
-    }
-
-    /// Decides whether the class of the first name is a subtype of the class of the second.
-    pub fn fits(&self, a: &[u16], b: &[u16]) -> bool
-        ensures { result ≡ fits self.now a.now b.now }
-    {
-        self.by_name.fits(a, b)
     }
 }

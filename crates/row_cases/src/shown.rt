@@ -6,7 +6,8 @@
 //!   thread, or `none`.
 //! - `at T C.m.D @P`, `at T init C` or `at T nowhere`. `frames T N`. `locals T V ..`, `stack T V ..` of the top frame.
 //! - `ref R text "TEXT"`, `ref R class C`, `ref R C C.x=V ..`, `ref R [E V ..`: the object of a reference.
-//! - `monitor R T xN`, or `free`.
+//! - `monitor R T xN`, or `free`. `wait T R xN`: the object that a thread waits for, and the entry count that it takes back,
+//!   or `none`.
 //! - `class C HOW C.x=V ..`: `new`, `init by T`, `done` or `erroneous`, and its static fields. `gone` if there is no
 //!   such class.
 
@@ -72,6 +73,7 @@ fn of_part(
         "locals" => threads::locals(alloc, machine, number(part)),
         "stack" => threads::operands(alloc, machine, number(part)),
         "ref" => objects::object(alloc, machine, number(part)),
+        "wait" => threads::wait(alloc, machine, number(part)),
         "monitor" => objects::monitor(alloc, machine, number(part)),
         "class" => objects::class(alloc, machine, part),
         _ => String::from_str(alloc, "isn't known"),

@@ -28,6 +28,14 @@ pub fn uncaught(alloc: Global, machine: &Machine<'_>, t: ThreadId) -> Result<Str
     }
 }
 
+/// Returns the object that a thread waits for and the entry count that it takes back, or `none`.
+pub fn wait(alloc: Global, machine: &Machine<'_>, t: ThreadId) -> Result<String, AllocError> {
+    match machine.wait(t) {
+        Some(wait) => format!(in alloc; "{} x{}", wait.reference, wait.count),
+        None => String::from_str(alloc, "none"),
+    }
+}
+
 /// Returns a call: its method, and the place of its next instruction.
 fn call(alloc: Global, machine: &Machine<'_>, frame: &Frame<'_>) -> Result<String, AllocError> {
     let number = frame.method();

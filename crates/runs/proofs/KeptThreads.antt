@@ -2,7 +2,7 @@
 use Rattle.std.proofs.Common.{Bool, List, [], ap, append-nil, append_assoc, arith, cond, eqb-true, false, inl, inr, length, not, refl, subst, suc, sym, true, zero, ℕ, ◌&&◌, ◌++◌, ◌+◌, ◌-◌, ◌<◌, ◌==◌, ◌∙◌, ◌∷◌, ◌≡◌, ◌≤◌}
 use Rattle.std.proofs.lemmas.Bool.{cond_both, eqb-false, false≢true}
 use Rattle.std.proofs.lemmas.Bool.Decides.{nat_tests}
-use Rattle.std.specs.List.{filter, list_any, range_with_len}
+use Rattle.std.specs.List.{filter, range_with_len}
 use Rattle.std.specs.Prelude.{◌≢◌, ◌||◌, ◌⊎◌, Err, Ok, OnOk, Result}
 use Rattle.jvms_machine.specs.Status.{is_bad, is_enabled}
 use Rattle.jvms_machine.specs.declared.machine.Outcome.{Outcome}
@@ -11,7 +11,7 @@ use Rattle.machine.specs.Machine.{Machine, transition_of}
 use Rattle.machine.specs.Others.{LeavesOthers}
 use Rattle.schedule.specs.Choosers.{enabled_of, may_be_enabled}
 use Rattle.schedule.specs.Enabled.{is_enabled_in, enabled_threads}
-use Rattle.runs.specs.Kept.{AreEnabled, AreIdle, IsKept, is_fit, one_enabled}
+use Rattle.runs.specs.Kept.{AreEnabled, AreIdle, IsKept, MarksOne, is_fit, one_enabled}
 use Rattle.runs.specs.declared.kept.Kept.{Kept}
 
 -- ---- One thread after another
@@ -102,54 +102,41 @@ module _ (m after : Machine) (t : ℕ) (threads : length after.state.threads ≡
 -- ---- Idle threads
 
 -- No thread is known to be idle.
-pub none_idle : (m : Machine) (idle : List ℕ) → idle ≡ [] → AreIdle m idle
+pub none_idle : (m : Machine) (idle : List Bool) → idle ≡ [] → AreIdle m idle
 none_idle m idle none = rw none (record { not_on = λ u is. absurd (false≢true (sym is)); fit = λ u is. absurd (false≢true (sym is)) })
 
 -- Nothing is kept.
 pub nothing_kept : (m : Machine) (kept : Kept) → kept.is_current ≡ false → kept.idle.items ≡ [] → IsKept m kept
 nothing_kept m kept old none = record { current = λ current. absurd (false≢true (sym old ∙ current)); beside = none_idle m kept.idle.items none }
 
-any_append : (t u : ℕ) (xs : List ℕ) → not (list_any (λ x. x == u) (xs ++ t ∷ [])) ≡ false → not (list_any (λ x. x == u) xs) ≡ true → t ≡ u
-any_append t u [] is none = eqb-true t u (not_true (t == u) is)
-  where
-    not_true : (b : Bool) → not (b || false) ≡ false → b ≡ true
-    not_true true e = refl
-    not_true false e = absurd (false≢true (sym e))
-any_append t u (x ∷ xs) is none = by_first (x == u) is none (any_append t u xs)
-  where
-    by_first : (b : Bool) → not (b || list_any (λ y. y == u) (xs ++ t ∷ [])) ≡ false → not (b || list_any (λ y. y == u) xs) ≡ true
-        → (not (list_any (λ y. y == u) (xs ++ t ∷ [])) ≡ false → not (list_any (λ y. y == u) xs) ≡ true → t ≡ u) → t ≡ u
-    by_first true e f rest = absurd (false≢true f)
-    by_first false e f rest = rest e f
-
 -- One more thread is idle.
-one_idle : (m : Machine) (idle : List ℕ) (t : ℕ) → AreIdle m idle → is_enabled_in m t ≡ false → is_bad (transition_of m t).outcome ≡ false → AreIdle m (idle ++ t ∷ [])
-one_idle m idle t are off fit =
+one_idle : (m : Machine) (before after : List Bool) (t : ℕ) → AreIdle m before → is_enabled_in m t ≡ false → is_bad (transition_of m t).outcome ≡ false → MarksOne before after t → AreIdle m after
+one_idle m before after t are off fit marks =
     record {
-      not_on = λ u is. by_old (λ v. is_enabled_in m v ≡ false) u is (are.not_on u) off;
-      fit = λ u is. by_old (λ v. is_bad (transition_of m v).outcome ≡ false) u is (are.fit u) fit;
+      not_on = λ u is. by_mark (λ v. is_enabled_in m v ≡ false) u (marks u is) (are.not_on u) off;
+      fit = λ u is. by_mark (λ v. is_bad (transition_of m v).outcome ≡ false) u (marks u is) (are.fit u) fit;
     }
   where
-    by_old : (P : ℕ → Type 0) (u : ℕ) → may_be_enabled (idle ++ t ∷ []) u ≡ false → (may_be_enabled idle u ≡ false → P u) → P t → P u
-    by_old P u is old now =
-        cond_both (may_be_enabled idle u) true false (λ _. P u) (λ apart. subst P (any_append t u idle is apart) now) (λ among. old among)
+    by_mark : (P : ℕ → Type 0) (u : ℕ) → (may_be_enabled before u ≡ false) ⊎ (u ≡ t) → (may_be_enabled before u ≡ false → P u) → P t → P u
+    by_mark P u (inl was) old now = old was
+    by_mark P u (inr same) old now = subst P (sym same) now
 
--- A thread that isn't enabled may be noted as idle.
+-- A thread that isn't enabled may be marked as idle.
 pub idle_noted : (m after : Machine) (kept noted : Kept) (t : ℕ) (o : Outcome) → after ≡ m → IsKept m kept → o ≡ (transition_of m t).outcome → is_enabled o ≡ false
     → noted.is_current ≡ kept.is_current → noted.threads ≡ kept.threads
-    → (noted.idle.items ≡ kept.idle.items) ⊎ ((is_bad o ≡ false) × (noted.idle.items ≡ kept.idle.items ++ t ∷ [])) → IsKept after noted
-idle_noted m after kept noted t o same are outcome off current threads items =
+    → (is_bad o ≡ true → noted.idle.items ≡ kept.idle.items) → MarksOne kept.idle.items noted.idle.items t → IsKept after noted
+idle_noted m after kept noted t o same are outcome off current threads bad marks =
     rw same (record {
       current = λ is. rw threads (are.current (sym current ∙ is));
-      beside = by_items items;
+      beside = by_bad (is_bad o) refl;
     })
   where
-    by_items : (noted.idle.items ≡ kept.idle.items) ⊎ ((is_bad o ≡ false) × (noted.idle.items ≡ kept.idle.items ++ t ∷ [])) → AreIdle m noted.idle.items
-    by_items (inl kept_so) = rw kept_so are.beside
-    by_items (inr more) = rw more.1 (one_idle m kept.idle.items t are.beside (sym (ap is_enabled outcome) ∙ off) (sym (ap is_bad outcome) ∙ more.0))
+    by_bad : (b : Bool) → is_bad o ≡ b → AreIdle m noted.idle.items
+    by_bad true is = rw (bad is) are.beside
+    by_bad false is = one_idle m kept.idle.items noted.idle.items t are.beside (sym (ap is_enabled outcome) ∙ off) (sym (ap is_bad outcome) ∙ is) marks
 
 -- A quiet turn of another thread leaves idle threads idle.
-pub idle_on : (m after : Machine) (t : ℕ) (idle : List ℕ) → AreIdle m idle → may_be_enabled idle t ≡ true → LeavesOthers m t after → AreIdle after idle
+pub idle_on : (m after : Machine) (t : ℕ) (idle : List Bool) → AreIdle m idle → may_be_enabled idle t ≡ true → LeavesOthers m t after → AreIdle after idle
 idle_on m after t idle are beside others =
     record {
       not_on = λ u is. (others u (apart u is) (are.fit u is)).enabled ∙ are.not_on u is;
@@ -160,12 +147,12 @@ idle_on m after t idle are beside others =
     apart u is same = false≢true (sym is ∙ ap (may_be_enabled idle) same ∙ beside)
 
 -- An enabled thread isn't idle.
-pub enabled_apart : (m : Machine) (idle : List ℕ) (u : ℕ) → AreIdle m idle → is_enabled_in m u ≡ true → may_be_enabled idle u ≡ true
+pub enabled_apart : (m : Machine) (idle : List Bool) (u : ℕ) → AreIdle m idle → is_enabled_in m u ≡ true → may_be_enabled idle u ≡ true
 enabled_apart m idle u are on =
     cond_both (may_be_enabled idle u) true false (λ _. may_be_enabled idle u ≡ true) (λ apart. apart) (λ among. absurd (false≢true (sym (are.not_on u among) ∙ on)))
 
 -- A turn of a thread that isn't idle leaves idle threads idle if it was quiet. Otherwise none is noted.
-pub kept_after : (m after : Machine) (kept noted : Kept) (idle : List ℕ) (t : ℕ) (is_quiet : Bool) → IsKept m kept → idle ≡ kept.idle.items → may_be_enabled idle t ≡ true
+pub kept_after : (m after : Machine) (kept noted : Kept) (idle : List Bool) (t : ℕ) (is_quiet : Bool) → IsKept m kept → idle ≡ kept.idle.items → may_be_enabled idle t ≡ true
     → (is_quiet ≡ true → LeavesOthers m t after) → noted.is_current ≡ false
     → (is_quiet ≡ true → noted.idle.items ≡ kept.idle.items) → (is_quiet ≡ false → noted.idle.items ≡ []) → IsKept after noted
 kept_after m after kept noted idle t is_quiet are same beside others old quiet other =
@@ -175,8 +162,22 @@ kept_after m after kept noted idle t is_quiet are same beside others old quiet o
     }
   where
     by_quiet : (b : Bool) → (b ≡ true → LeavesOthers m t after) → (b ≡ true → noted.idle.items ≡ kept.idle.items) → (b ≡ false → noted.idle.items ≡ []) → AreIdle after noted.idle.items
-    by_quiet true others quiet other = rw (quiet refl) (idle_on m after t kept.idle.items are.beside (subst (λ (l : List ℕ). may_be_enabled l t ≡ true) same beside) (others refl))
+    by_quiet true others quiet other = rw (quiet refl) (idle_on m after t kept.idle.items are.beside (subst (λ (l : List Bool). may_be_enabled l t ≡ true) same beside) (others refl))
     by_quiet false others quiet other = none_idle after noted.idle.items (other refl)
+
+-- A turn that took place and was quiet leaves idle threads idle. Otherwise none is noted.
+pub kept_after_choice : (m after : Machine) (kept noted : Kept) (t : ℕ) (o : Outcome) (is_quiet : Bool) → IsKept m kept → o ≡ (transition_of m t).outcome
+    → (is_quiet ≡ true → LeavesOthers m t after) → noted.is_current ≡ false
+    → (is_quiet && is_enabled o ≡ true → noted.idle.items ≡ kept.idle.items) → (is_quiet && is_enabled o ≡ false → noted.idle.items ≡ []) → IsKept after noted
+kept_after_choice m after kept noted t o is_quiet are outcome others old quiet other =
+    by_turn is_quiet (is_enabled o) refl others quiet other
+  where
+    by_turn : (a b : Bool) → is_enabled o ≡ b → (a ≡ true → LeavesOthers m t after) → (a && b ≡ true → noted.idle.items ≡ kept.idle.items) → (a && b ≡ false → noted.idle.items ≡ []) → IsKept after noted
+    by_turn true true on others quiet other =
+        let apart = enabled_apart m kept.idle.items t are.beside (sym (ap is_enabled outcome) ∙ on) in
+        kept_after m after kept noted kept.idle.items t true are refl apart others old (λ _. quiet refl) (λ none. absurd (false≢true (sym none)))
+    by_turn true false on others quiet other = nothing_kept after noted old (other refl)
+    by_turn false b on others quiet other = nothing_kept after noted old (other refl)
 
 -- No thread is noted as idle any more.
 pub idle_forgotten : (m : Machine) (kept forgot : Kept) → IsKept m kept → forgot.is_current ≡ kept.is_current → forgot.threads ≡ kept.threads → forgot.idle.items ≡ [] → IsKept m forgot
@@ -190,8 +191,3 @@ idle_forgotten m kept forgot are current threads none =
 pub refreshed : {A E : Type 0} (m : Machine) (kept now : Kept) (r : Result A E) → IsKept m kept → OnOk r (now.is_current ≡ true → AreEnabled m now.threads.items) → OnOk r (now.idle.items ≡ kept.idle.items) → OnOk r (IsKept m now)
 refreshed m kept now (Ok done) are current idle = record { current = current; beside = rw idle are.beside }
 refreshed m kept now (Err e) are current idle = tt
-
--- A thread that is noted as idle if there is memory, and whose turn isn't Bad.
-pub noted_or_not : (ok bad : Bool) (before more after : List ℕ) → bad ≡ false → after ≡ cond ok more before → (after ≡ before) ⊎ ((bad ≡ false) × (after ≡ more))
-noted_or_not true bad before more after fit is = inr (fit, is)
-noted_or_not false bad before more after fit is = inl is

@@ -1,7 +1,5 @@
 -- The turn of the thread that a chooser predicts.
-use Rattle.std.proofs.Common.{◌≡◌, ℕ, true, false, List, length, Option, None, Some, ap, subst, sym, ◌∙◌}
-use Rattle.std.specs.Prelude.{IfOk, Result, is_some}
-use Rattle.std.proofs.lemmas.Bool.{false≢true}
+use Rattle.std.proofs.Common.{◌≡◌, ℕ, Bool, true, false, List, length, Option, Some, ap, subst, sym, ◌∙◌}
 use Rattle.jvms_machine.specs.declared.machine.Outcome.{Outcome}
 use Rattle.jvms_machine.specs.declared.trace.Item.{Item}
 use Rattle.jvms_machine.specs.Status.{is_enabled}
@@ -11,7 +9,7 @@ use Rattle.trace.proofs.Recorded.{recorded_none}
 use Rattle.machine.specs.Machine.{Machine, transition_of, with_state}
 use Rattle.schedule.specs.Choosers.{Chooser, with_choices, may_be_enabled, IsNextBeside}
 use Rattle.schedule.specs.Enabled.{is_enabled_in}
-use Rattle.runs.specs.Choices.{IsTurn, choice_of, chooser_after}
+use Rattle.runs.specs.Choices.{IsTurnOf, choice_of, chooser_after}
 use Rattle.runs.specs.Kept.{AreIdle}
 use Rattle.runs.proofs.KeptThreads.{enabled_apart}
 
@@ -25,26 +23,20 @@ unmade m after t o items more outcome disabled state items_are =
 
 -- A thread that is predicted beside idle threads is the next choice if it is enabled, and counting it gives the chooser
 -- after that choice.
-pub chosen_beside : (m : Machine) (chooser : Chooser) (are_idle idle : List ℕ) (t : ℕ) (o : Outcome)
+pub chosen_beside : (m : Machine) (chooser : Chooser) (are_idle idle : List Bool) (t : ℕ) (o : Outcome)
     → AreIdle m are_idle → idle ≡ are_idle → IsNextBeside idle t (length m.state.threads) chooser → o ≡ (transition_of m t).outcome → is_enabled o ≡ true
     → (choice_of chooser m ≡ Some t) × (with_choices 1 t chooser ≡ chooser_after chooser m)
 unfolding IsNextBeside with_choices
 chosen_beside m chooser are_idle idle t o are same next_is outcome enabled =
-    let is = next_is (is_enabled_in m) (λ u on. subst (λ (l : List ℕ). may_be_enabled l u ≡ true) (sym same) (enabled_apart m are_idle u are on)) (sym (ap is_enabled outcome) ∙ enabled) in
+    let is = next_is (is_enabled_in m) (λ u on. subst (λ (l : List Bool). may_be_enabled l u ≡ true) (sym same) (enabled_apart m are_idle u are on)) (sym (ap is_enabled outcome) ∙ enabled) in
     (ap (λ n. n.0) is, sym (ap (λ n. n.1) is))
 
--- ---- A prediction that is tried again
+-- ---- A turn after predictions that weren't enabled
 
--- If no turn was taken, nothing has changed.
-pub untaken : (m m1 : Machine) (chooser chooser1 : Chooser) (items items1 : Option (List Item)) (first : Option (ℕ × Outcome))
-    → is_some first ≡ false → IsTurn m chooser items first m1 chooser1 items1 → (m1 ≡ m) × (chooser1 ≡ chooser) × (items1 ≡ items)
-untaken m m1 chooser chooser1 items items1 None none is = is
-untaken m m1 chooser chooser1 items items1 (Some taken) none is = absurd (false≢true (sym none))
-
--- The turn after one that wasn't taken is the first.
-pub tried_again : {E : Type 0} (m m1 after : Machine) (chooser chooser1 later : Chooser) (items items1 more : Option (List Item)) (r : Result (Option (ℕ × Outcome)) E)
-    → (m1 ≡ m) × (chooser1 ≡ chooser) × (items1 ≡ items) → IfOk r (λ taken. IsTurn m1 chooser1 items1 taken after later more) → IfOk r (λ taken. IsTurn m chooser items taken after later more)
-tried_again m m1 after chooser chooser1 later items items1 more r same second =
-    subst (λ (x : Machine). IfOk r (λ taken. IsTurn x chooser items taken after later more)) same.0
-    (subst (λ (x : Chooser). IfOk r (λ taken. IsTurn m1 x items taken after later more)) same.1
-    (subst (λ (x : Option (List Item)). IfOk r (λ taken. IsTurn m1 chooser1 x taken after later more)) same.2 second))
+-- The turn that was taken after nothing had changed is the first.
+pub taken_later : {m m1 after : Machine} {chooser chooser1 later : Chooser} {items items1 more : Option (List Item)} {taken : ℕ × Outcome}
+    → m1 ≡ m → chooser1 ≡ chooser → items1 ≡ items → IsTurnOf m1 chooser1 items1 taken after later more → IsTurnOf m chooser items taken after later more
+taken_later {m} {m1} {after} {chooser} {chooser1} {later} {items} {items1} {more} {taken} same_m same_chooser same_items turn =
+    subst (λ (x : Machine). IsTurnOf x chooser items taken after later more) same_m
+    (subst (λ (x : Chooser). IsTurnOf m1 x items taken after later more) same_chooser
+    (subst (λ (x : Option (List Item)). IsTurnOf m1 chooser1 x taken after later more) same_items turn))

@@ -1,22 +1,35 @@
 //! The enabled threads of a machine, kept from turn to turn of a run.
 
-ghost use Rattle.std.specs.Prelude.{◌≡◌, ◌++◌, ◌∷◌, [], ◌&&◌, ◌⊎◌, false, IsTrue, OnOk};
+ghost use Rattle.std.specs.Prelude.{◌≡◌, ◌++◌, [], ◌&&◌, false, IsTrue, OnOk};
 ghost use Rattle.jvms_machine.specs.Status.{is_bad};
-ghost use Rattle.runs.specs.Kept.{AreEnabled, IsKept, is_fit, one_enabled};
+ghost use Rattle.runs.specs.Kept.{AreEnabled, IsKept, MarksOne, is_fit, one_enabled};
 ghost use Rattle.schedule.specs.Enabled.{enabled_threads};
 
 use machine::{Machine, Outcome, ThreadId, is_bad, is_enabled};
 use std::alloc::{AllocError, Global};
 
-/// A list of the enabled threads of a machine, in rising order, if it is current, and some idle threads.
+/// A list of the enabled threads of a machine, in rising order, if it is current, and marks of idle threads.
 #[derive(Drop)]
 pub(crate) struct Kept {
     /// The threads.
     pub threads: Vec<ThreadId>,
     /// Set if these are the enabled threads, and no thread's turn is Bad.
     pub is_current: bool,
-    /// Idle threads: they aren't enabled, and their turns aren't Bad. There may be others.
-    pub idle: Vec<ThreadId>,
+    /// Marks idle threads by their numbers: they aren't enabled, and their turns aren't Bad. There may be others.
+    pub idle: Vec<bool>,
+}
+
+/// Marks a thread. If there is no memory, nothing changes.
+fn mark(marks: &mut Vec<bool>, thread: ThreadId)
+    ensures { MarksOne marks.old.items marks.new.items thread }
+{
+    let place = thread as usize;
+    if place >= marks.len() {
+        let Ok(()) = marks.resize(place + 1, false) else {
+            return;
+        };
+    }
+    marks[place] = true;
 }
 
 impl Kept {
@@ -52,17 +65,16 @@ impl Kept {
         self.idle.clear();
     }
 
-    /// Notes a thread that isn't enabled as idle, unless its turn is Bad. If there is no memory, nothing changes.
+    /// Marks a thread that isn't enabled as idle, unless its turn is Bad. If there is no memory, nothing changes.
     pub(crate) fn note_idle(&mut self, thread: ThreadId, outcome: Outcome)
         ensures current { self.new.is_current ≡ self.old.is_current }
         ensures threads { self.new.threads ≡ self.old.threads }
-        ensures idle { (self.new.idle.items ≡ self.old.idle.items) ⊎ ((is_bad outcome ≡ false)
-            × (self.new.idle.items ≡ self.old.idle.items ++ thread ∷ [])) }
+        ensures bad { IsTrue (is_bad outcome) → self.new.idle.items ≡ self.old.idle.items }
+        ensures idle { MarksOne self.old.idle.items self.new.idle.items thread }
     {
-        if is_bad(outcome) {
-            return;
+        if !is_bad(outcome) {
+            mark(&mut self.idle, thread);
         }
-        let _noted = self.idle.push(thread);
     }
 
     /// Marks the list as not current after a turn of a thread that isn't idle. After a turn that wasn't quiet, no

@@ -1,6 +1,6 @@
 //! The next turns of a run.
 
-ghost use Rattle.std.specs.Prelude.{◌≡◌, ◌≤◌, true, length, IfOk, IsTrue, OnErr, OnOk};
+ghost use Rattle.std.specs.Prelude.{◌≡◌, ◌≤◌, ◌&&◌, true, length, IfOk, IsTrue, OnErr, OnOk};
 ghost use Rattle.jvms_machine.specs.Status.{is_enabled};
 ghost use Rattle.runs.specs.Choices.{AreConsecutiveTurns, IsNextTurn, IsTurn, IsUnchanged, IsUntaken};
 ghost use Rattle.runs.specs.Kept.{IsKept};
@@ -12,6 +12,9 @@ use machine::{Machine, Outcome, ThreadId, Turn, is_enabled};
 use schedule::{Candidate, Chooser};
 use std::alloc::AllocError;
 use trace::Recording;
+
+/// The most predicted threads that are tried before the machine's threads are inspected.
+const MOST_TRIES: u32 = 64;
 
 /// A choice, and the outcome of its turn.
 pub(crate) type Taken = (ThreadId, Outcome);
@@ -59,11 +62,11 @@ pub(crate) fn take_consecutive_turns(
     TurnsOn { thread, times }
 }
 
-/// Takes one turn of the thread that the chooser predicts beside idle threads, and returns the thread and the outcome.
-/// Returns `None`, with machine, chooser and items unchanged, if the chooser predicts no thread, or one that isn't
-/// enabled. That thread is noted as idle.
+/// Takes one turn of the next thread, which the chooser predicts beside idle threads, and returns the thread and the
+/// outcome. A predicted thread that isn't enabled is marked as idle, and the next prediction is tried, `MOST_TRIES` times
+/// at most. Returns `None`, with machine, chooser and items unchanged, if no predicted thread is enabled.
 ///
-/// Decides that turn once, and inspects no other thread. On an error, the machine and the items are unchanged.
+/// Decides that turn once, and inspects no thread that is marked. On an error, the machine and the items are unchanged.
 fn take_candidate(
     machine: &mut Machine<'_>,
     chooser: &mut Chooser,
@@ -77,40 +80,19 @@ fn take_candidate(
     ensures kept { OnErr result (IsUnchanged machine.old chooser.old recording.old
         machine.new chooser.new recording.new) }
 {
-    let Some(thread) = chooser.candidate_beside(machine, kept.idle.as_slice()) else {
-        return Ok(None);
-    };
-    let turn = machine.step_watched(thread, recording)?;
-    if !is_enabled(turn.outcome) {
+    for _ in 0..MOST_TRIES {
+        let Some(thread) = chooser.candidate_beside(machine, kept.idle.as_slice()) else {
+            return Ok(None);
+        };
+        let turn = machine.step_watched(thread, recording)?;
+        if is_enabled(turn.outcome) {
+            kept.note_turn(turn.is_quiet);
+            chooser.count(thread, 1);
+            return Ok(Some((thread, turn.outcome)));
+        }
         kept.note_idle(thread, turn.outcome);
-        return Ok(None);
     }
-    kept.note_turn(turn.is_quiet);
-    chooser.count(thread, 1);
-    Ok(Some((thread, turn.outcome)))
-}
-
-/// Takes one turn as `take_candidate` does. If the predicted thread isn't enabled, tries the one that is predicted
-/// beside it. Most often that one is enabled.
-#[inline(always)]
-fn take_either_candidate(
-    machine: &mut Machine<'_>,
-    chooser: &mut Chooser,
-    kept: &mut Kept,
-    recording: &mut Recording,
-) -> Result<Option<Taken>, AllocError>
-    requires { IsKept machine.old kept.old }
-    ensures taken { IfOk result (λ taken.
-        IsTurn machine.old chooser.old recording.old taken machine.new chooser.new recording.new) }
-    ensures enabled { OnOk result (IsKept machine.new kept.new) }
-    ensures kept { OnErr result (IsUnchanged machine.old chooser.old recording.old
-        machine.new chooser.new recording.new) }
-{
-    let taken = take_candidate(machine, chooser, kept, recording)?;
-    if taken.is_some() {
-        return Ok(taken);
-    }
-    take_candidate(machine, chooser, kept, recording)
+    Ok(None)
 }
 
 /// Returns whether the same threads are enabled before and after a turn of a thread: the turn was quiet and took place,
@@ -161,11 +143,19 @@ fn take_by_word(
     Ok(Some((thread, turn.outcome)))
 }
 
+/// Returns whether idle threads are idle after a turn too: it was quiet and took place.
+#[inline(always)]
+fn leaves_idle(turn: Turn) -> bool
+    ensures { result ≡ (turn.is_quiet && is_enabled turn.outcome) }
+{
+    turn.is_quiet && is_enabled(turn.outcome)
+}
+
 /// Takes the turn of the chooser's next choice, and returns the choice and the outcome. Returns `None` if there is no
 /// choice. Then, as on an error, the machine and the items are unchanged. On an error, the chooser may have given its
 /// next choice.
 #[inline(always)]
-#[tactic(auto, using(crate::proofs::KeptThreads::nothing_kept))]
+#[tactic(auto, using(crate::proofs::KeptThreads::kept_after_choice))]
 pub(crate) fn take_turn(
     machine: &mut Machine<'_>,
     chooser: &mut Chooser,
@@ -182,13 +172,13 @@ pub(crate) fn take_turn(
     if chooser.is_seeded() {
         return take_by_word(machine, chooser, kept, recording);
     }
-    if let Some(taken) = take_either_candidate(machine, chooser, kept, recording)? {
+    if let Some(taken) = take_candidate(machine, chooser, kept, recording)? {
         return Ok(Some(taken));
     }
     let Some(thread) = chooser.next(machine) else {
         return Ok(None);
     };
-    kept.forget();
-    let outcome = machine.step_recorded(thread, recording)?;
-    Ok(Some((thread, outcome)))
+    let turn = machine.step_watched(thread, recording)?;
+    kept.note_turn(leaves_idle(turn));
+    Ok(Some((thread, turn.outcome)))
 }

@@ -122,20 +122,20 @@ module _ (p q : ℕ → Bool) (fewer : (t : ℕ) → p t ≡ true → q t ≡ tr
       by_cases false b c d a_is b_is c_is d_is q_stays p_stays there = moves _ _ q_stays p_stays there
 
 -- What round robin chooses among the threads that may be enabled is its choice if it is enabled.
-choice_for : (idle : List ℕ) (count quantum thread turns chosen : ℕ) → Some chosen ≡ round_robin quantum thread turns (enabled_of (may_be_enabled idle) count) → IsNextBeside idle chosen count (RoundRobin quantum thread turns)
+choice_for : (idle : List Bool) (count quantum thread turns chosen : ℕ) → Some chosen ≡ round_robin quantum thread turns (enabled_of (may_be_enabled idle) count) → IsNextBeside idle chosen count (RoundRobin quantum thread turns)
 unfolding IsNextBeside
 choice_for idle count quantum thread turns chosen is = λ p beside enabled.
     ap (λ o. (o, after_choice quantum thread turns o)) (choice_some p (may_be_enabled idle) beside count quantum thread turns chosen (sym is) enabled)
 
 -- ---- The prediction
 
-pub choice_beside : (idle : List ℕ) (count quantum thread turns : ℕ) (o : Option ℕ) → o ≡ round_robin quantum thread turns (enabled_of (may_be_enabled idle) count)
+pub choice_beside : (idle : List Bool) (count quantum thread turns : ℕ) (o : Option ℕ) → o ≡ round_robin quantum thread turns (enabled_of (may_be_enabled idle) count)
     → IfSome o (λ t. IsNextBeside idle t count (RoundRobin quantum thread turns))
 choice_beside idle count quantum thread turns None is = tt
 choice_beside idle count quantum thread turns (Some chosen) is = choice_for idle count quantum thread turns chosen is
 
 -- The predicted thread isn't idle.
-pub choice_may : (idle : List ℕ) (count quantum thread turns : ℕ) (o : Option ℕ) → o ≡ round_robin quantum thread turns (enabled_of (may_be_enabled idle) count)
+pub choice_may : (idle : List Bool) (count quantum thread turns : ℕ) (o : Option ℕ) → o ≡ round_robin quantum thread turns (enabled_of (may_be_enabled idle) count)
     → IfSome o (λ t. may_be_enabled idle t ≡ true)
 choice_may idle count quantum thread turns None is = tt
 choice_may idle count quantum thread turns (Some chosen) is = choice_passes (may_be_enabled idle) count quantum thread turns chosen (sym is)

@@ -1,5 +1,5 @@
 -- The choices of choosers. A chooser is the state of a schedule.
-use Rattle.std.specs.Prelude.{◌≡◌, ℕ, zero, suc, ◌+◌, ◌%◌, min, Bool, true, false, not, ◌&&◌, ◌==◌, nat_lt, if◌then◌else◌, List, [], ◌∷◌, length, Option, None, Some, slice_get}
+use Rattle.std.specs.Prelude.{◌≡◌, ℕ, zero, suc, ◌+◌, ◌%◌, min, Bool, true, false, not, ◌&&◌, ◌==◌, nat_lt, if◌then◌else◌, List, [], ◌∷◌, length, Option, None, Some, slice_get, unwrap_or}
 use Rattle.std.specs.List.{filter, find, list_any, range_with_len}
 use Rattle.std.specs.Option.{option_or}
 use Rattle.rand_pcg.specs.Lcg.{Lcg, started, increment_of}
@@ -114,13 +114,13 @@ IsNextFor (suc times) thread threads chooser =
     ((is_enabled : ℕ → Bool) → is_enabled thread ≡ true → next chooser (enabled_of is_enabled threads) ≡ (Some thread, with_choice thread chooser))
     × IsNextFor times thread threads (with_choice thread chooser)
 
--- Decides whether a thread may be enabled: it isn't one of the idle threads.
-abbrev pub may_be_enabled : List ℕ → ℕ → Bool
-may_be_enabled idle thread = not (list_any (λ t. t == thread) idle)
+-- Decides whether a thread may be enabled: it isn't marked as idle. A thread beyond the marks has none.
+abbrev pub may_be_enabled : List Bool → ℕ → Bool
+may_be_enabled idle thread = not (unwrap_or (slice_get idle thread) false)
 
 -- Among this number of threads, one is the next choice if it is enabled and no idle thread is. Which other threads are
 -- enabled doesn't matter.
-unfoldable pub IsNextBeside : List ℕ → ℕ → ℕ → Chooser → Type 0
+unfoldable pub IsNextBeside : List Bool → ℕ → ℕ → Chooser → Type 0
 IsNextBeside idle thread threads chooser =
     (is_enabled : ℕ → Bool) → ((t : ℕ) → is_enabled t ≡ true → may_be_enabled idle t ≡ true) → is_enabled thread ≡ true
     → next chooser (enabled_of is_enabled threads) ≡ (Some thread, with_choice thread chooser)

@@ -276,12 +276,12 @@ impl Chooser {
         }
     }
 
-    /// Predicts the next choice beside idle threads, which aren't enabled, without inspecting any thread. The
-    /// prediction holds if the predicted thread is enabled.
+    /// Predicts the next choice beside idle threads, which are marked and aren't enabled, without inspecting any thread.
+    /// The prediction holds if the predicted thread is enabled.
     ///
     /// `rr:Q` predicts the last thread if it has turns left and isn't idle, else the next thread that isn't idle. All
     /// other choosers predict nothing.
-    pub fn candidate_beside(&self, machine: &Machine<'_>, idle: &[ThreadId]) -> Option<ThreadId>
+    pub fn candidate_beside(&self, machine: &Machine<'_>, idle: &[bool]) -> Option<ThreadId>
         ensures next { IfSome result
             (λ t. IsNextBeside idle.now t (length machine.now.state.threads) self.now) }
         ensures beside { IfSome result (λ t. may_be_enabled idle.now t ≡ true) }

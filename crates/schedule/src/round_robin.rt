@@ -83,7 +83,7 @@ impl Turns {
     /// Predicts the next choice beside idle threads, without inspecting any thread. That is the last thread for its
     /// remaining turns, if it isn't idle, else the next thread that isn't idle. Returns `None` if all threads are idle.
     #[tactic(auto, using(crate::proofs::Beside::choice_beside))]
-    pub(crate) fn candidate_beside(&self, count: u32, idle: &[ThreadId]) -> Option<ThreadId>
+    pub(crate) fn candidate_beside(&self, count: u32, idle: &[bool]) -> Option<ThreadId>
         ensures next { IfSome result (λ t. IsNextBeside idle.now t count
             (RoundRobin self.now.quantum self.now.thread self.now.turns)) }
         ensures beside { IfSome result (λ t. may_be_enabled idle.now t ≡ true) }

@@ -137,9 +137,9 @@ fn round_robin_passes_over_idle_threads(rt: HostRuntime) -> Result<(), Fail> {
         turns: 1,
     };
     assert_eq!(rt; turns.candidate_beside(3, &[]), Some(1));
-    assert_eq!(rt; turns.candidate_beside(3, &[1]), Some(2));
-    assert_eq!(rt; turns.candidate_beside(3, &[2, 1]), Some(0));
-    assert_eq!(rt; turns.candidate_beside(3, &[0, 1, 2]), None);
+    assert_eq!(rt; turns.candidate_beside(3, &[false, true]), Some(2));
+    assert_eq!(rt; turns.candidate_beside(3, &[false, true, true]), Some(0));
+    assert_eq!(rt; turns.candidate_beside(3, &[true, true, true]), None);
     Ok(())
 }
 

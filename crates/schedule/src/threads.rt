@@ -48,8 +48,8 @@ impl Threads for Machine<'_> {
 pub(crate) struct Beside<'a> {
     /// The number of threads.
     pub count: u32,
-    /// The idle threads: they aren't enabled. There may be others.
-    pub idle: &'a [ThreadId],
+    /// Marks idle threads by their numbers: they aren't enabled. There may be others.
+    pub idle: &'a [bool],
 }
 
 impl Threads for Beside<'_> {
@@ -62,7 +62,7 @@ impl Threads for Beside<'_> {
     }
 
     fn is_enabled(&self, thread: ThreadId) -> bool {
-        !self.idle.contains(&thread)
+        !self.idle.get(thread as usize).copied().unwrap_or(false)
     }
 }
 

@@ -38,28 +38,28 @@ use Rattle.jvms_machine.specs.declared.value.Value.TheVariants as value
 pub record IsOfTests (limits : Limits) (s : State) (thread : Thread) (P : TurnDecision → Type 0) : Type 0 where
   pub unmade : (o : Outcome) → P (decision.Stays o)
   pub thrown_by : (class : Thrown) → P (throws limits s thread class)
-  pub begun_by : (class : ℕ) → P (decision.Applies (action.Begins class))
+  pub begun_by : (class : ℕ) → slice_get s.initialisations class ≡ Some initialisation.NotBegun → P (decision.Applies (action.Begins class))
 
 module _ (program : List Class) (limits : Limits) (s : State) (t : ℕ) (thread : Thread) (P : TurnDecision → Type 0) (tests : IsOfTests limits s thread P) where
   -- ---- Initialisation
 
-  begin_has : (class : ℕ) (o : Option Class) → P (begin_decision limits s thread class o)
-  begin_has class None = tests.unmade (outcome.Bad cause.OutOfProfile)
-  begin_has class (Some c) =
+  begin_has : (class : ℕ) → slice_get s.initialisations class ≡ Some initialisation.NotBegun → (o : Option Class) → P (begin_decision limits s thread class o)
+  begin_has class begins None = tests.unmade (outcome.Bad cause.OutOfProfile)
+  begin_has class begins (Some c) =
       cond_both (not (has_room_for (length (new_texts s.heap (constants_of c.fields))) limits s)) _ _ P
       (λ _. tests.thrown_by thrown.OutOfMemoryError)
-      (λ _. cond_both (nat_le limits.frames (length thread.frames)) _ _ P (λ _. tests.thrown_by thrown.StackOverflowError) (λ _. tests.begun_by class))
+      (λ _. cond_both (nat_le limits.frames (length thread.frames)) _ _ P (λ _. tests.thrown_by thrown.StackOverflowError) (λ _. tests.begun_by class begins))
 
-  class_use_at_has : (class : ℕ) (o : Option Initialisation) (continued : TurnDecision) → P continued → P (requiring_class_in program limits s t thread class o continued)
-  class_use_at_has class None continued has = tests.unmade (outcome.Bad cause.OutOfProfile)
-  class_use_at_has class (Some initialisation.NotBegun) continued has = begin_has class (slice_get program class)
-  class_use_at_has class (Some (initialisation.InProgress u)) continued has =
+  class_use_at_has : (class : ℕ) (o : Option Initialisation) (continued : TurnDecision) → slice_get s.initialisations class ≡ o → P continued → P (requiring_class_in program limits s t thread class o continued)
+  class_use_at_has class None continued at has = tests.unmade (outcome.Bad cause.OutOfProfile)
+  class_use_at_has class (Some initialisation.NotBegun) continued at has = begin_has class at (slice_get program class)
+  class_use_at_has class (Some (initialisation.InProgress u)) continued at has =
       cond_both (u == t) continued _ P (λ _. has) (λ _. tests.unmade (outcome.Blocked (blocked.Initialisation class u)))
-  class_use_at_has class (Some initialisation.Done) continued has = has
-  class_use_at_has class (Some initialisation.Erroneous) continued has = tests.thrown_by thrown.NoClassDefFoundError
+  class_use_at_has class (Some initialisation.Done) continued at has = has
+  class_use_at_has class (Some initialisation.Erroneous) continued at has = tests.thrown_by thrown.NoClassDefFoundError
 
   pub class_use_has : (class : ℕ) (continued : TurnDecision) → P continued → P (class_use_decision program limits s t thread class continued)
-  class_use_has class continued has = class_use_at_has class (slice_get s.initialisations class) continued has
+  class_use_has class continued has = class_use_at_has class (slice_get s.initialisations class) continued refl has
 
   -- ---- Monitors
 

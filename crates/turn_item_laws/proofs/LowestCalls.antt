@@ -77,7 +77,7 @@ module _ (program : List Class) (limits : Limits) (start : Start) (s : State) (t
   throws_is class = raise_is thread.frames thread.frames (exception_of limits s class)
 
   tests_are : IsOfTests limits s thread IsOfThread
-  tests_are = record { unmade = λ o. tt; thrown_by = throws_is; begun_by = λ class. tt }
+  tests_are = record { unmade = λ o. tt; thrown_by = throws_is; begun_by = λ class begins. tt }
 
   turns_are : IsOfTurns program limits s t thread (λ joins accesses d. IsOfThread d)
   turns_are =

@@ -159,7 +159,7 @@ module _ (program : List Class) (limits : Limits) (start : Start) (s : State) (t
   pub told_calls : IsOfCalls program limits s t thread frame joins accesses Told
   told_calls =
       record {
-        of_tests = record { unmade = unmade_is_told; thrown_by = throws_is_told; begun_by = begins_is_told };
+        of_tests = record { unmade = unmade_is_told; thrown_by = throws_is_told; begun_by = λ class begins. begins_is_told class };
         calls = calls_is_told;
         waits = waits_is_told;
         reached = reaches_is_told;

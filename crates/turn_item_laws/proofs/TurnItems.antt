@@ -41,7 +41,7 @@ module _ (program : List Class) (limits : Limits) (start : Start) (s : State) (t
         of_tests = record {
           unmade = λ o. silent (decision.Stays o) (unmade_is_silent program limits s t o);
           thrown_by = λ class. silent (throws limits s thread class) (throws_is_silent program limits s t thread class);
-          begun_by = λ class. silent (decision.Applies (action.Begins class)) (begins_is_silent program limits s t class);
+          begun_by = λ class begins. silent (decision.Applies (action.Begins class)) (begins_is_silent program limits s t class);
         };
         reached = λ what act is. silent (reaches what act) (reaches_is_silent program limits s t what act is);
         threw = λ r. silent (decision.Applies (action.Throws r)) (throwing_is_silent program limits s t r);

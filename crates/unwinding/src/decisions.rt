@@ -6,10 +6,12 @@ ghost use Rattle.jvms_machine.specs.declared.value.Value.TheVariants as value;
 ghost use Rattle.jvms_machine.specs.Arrays.{with_object_of};
 ghost use Rattle.jvms_machine.specs.State.{Object, class_of};
 ghost use Rattle.jvms_machine.specs.Unwinding.{covers, takes_class, handles, handler_of, popped_decision, handler_decision, failed_with, top_decision, unwinding_decision, throwable_decision, throw_decision};
+ghost use Rattle.heap.specs.Objects.{IsNumberOf};
 ghost use Rattle.machine_parts.specs.Decided.{decision_value};
 ghost use Rattle.unwinding.specs.Replacing.{is_replaced};
 
 use frames::Frame;
+use heap::ObjectClass;
 use jvms_machine::action::{Action, Decision, Exception};
 use jvms_machine::machine::{BadCause, ThreadId};
 use jvms_machine::state::StackFrame;
@@ -38,17 +40,24 @@ fn covers(place: usize, handler: &ExceptionHandler) -> bool
 }
 
 /// Decides whether a handler takes objects of a class. A handler whose class doesn't exist takes none.
-fn takes_class(program: &Program, class: &[u16], catch: &Catch) -> bool
-    ensures { result ≡ takes_class program.now class.now catch.now }
+fn takes_class(program: &Program, class: ObjectClass<'_>, catch: &Catch) -> bool
+    requires { IsNumberOf program.now class.number class.name.now }
+    ensures { result ≡ takes_class program.now class.entry.name.now catch.now }
 {
     match catch {
         Catch::All => true,
-        Catch::Class(name) => program.fits(class, name.as_slice()),
+        Catch::Class(name) => class.fits(program, name.as_slice()),
     }
 }
 
-fn handles(program: &Program, class: &[u16], place: usize, handler: &ExceptionHandler) -> bool
-    ensures { result ≡ handles program.now class.now place handler.now }
+fn handles(
+    program: &Program,
+    class: ObjectClass<'_>,
+    place: usize,
+    handler: &ExceptionHandler,
+) -> bool
+    requires { IsNumberOf program.now class.number class.name.now }
+    ensures { result ≡ handles program.now class.entry.name.now place handler.now }
 {
     covers(place, handler) && takes_class(program, class, &handler.catch)
 }
@@ -56,10 +65,11 @@ fn handles(program: &Program, class: &[u16], place: usize, handler: &ExceptionHa
 /// Returns the first handler in the table's order that covers the pc of a call and takes objects of a class.
 fn handler_of<'p>(
     program: &Program,
-    class: &[u16],
+    class: ObjectClass<'_>,
     frame: &Frame<'p>,
 ) -> Option<&'p ExceptionHandler>
-    ensures { option_copied result ≡ handler_of program.now class.now frame.now }
+    requires { IsNumberOf program.now class.number class.name.now }
+    ensures { option_copied result ≡ handler_of program.now class.entry.name.now frame.now }
 {
     let place = frame.place();
     frame
@@ -98,10 +108,12 @@ fn handler_decision<'p>(
     thread: &Thread,
     frame: &Frame,
     reference: u32,
-    class: &[u16],
+    class: ObjectClass<'_>,
 ) -> Decided<'p>
+    requires { IsNumberOf parts.now.program class.number class.name.now }
     ensures { decision_value result ≡ handler_decision parts.now.limits parts.now.state t frame.now
-        (drop 1 thread.now.frames) reference (handler_of parts.now.program class.now frame.now) }
+        (drop 1 thread.now.frames) reference
+        (handler_of parts.now.program class.entry.name.now frame.now) }
 {
     match handler_of(parts.program(), class, frame) {
         None => popped_decision(parts, t, thread, frame),
@@ -119,16 +131,18 @@ fn handler_decision<'p>(
 
 /// Decides whether a failed initialisation of a class replaces a pending object of a class. It does if its `<clinit>`
 /// was called and the object is no Error.
-fn is_replaced(parts: &Parts, called: bool, class: &[u16]) -> bool
-    ensures { result ≡ is_replaced parts.now.program called class.now }
+fn is_replaced(parts: &Parts, called: bool, class: ObjectClass<'_>) -> bool
+    requires { IsNumberOf parts.now.program class.number class.name.now }
+    ensures { result ≡ is_replaced parts.now.program called class.entry.name.now }
 {
-    called && !parts.program().fits(class, &ERROR)
+    called && !class.fits(parts.program(), &ERROR)
 }
 
 /// Returns the exception that is pending after a class's failed initialisation.
 #[tactic(auto, using(crate::proofs::FailedClasses::failed_anew, crate::proofs::FailedClasses::failed_still))]
-fn failed_with(parts: &Parts, called: bool, reference: u32, class: &[u16]) -> Exception
-    ensures { (o : Object) → class.now ≡ class_of o → result
+fn failed_with(parts: &Parts, called: bool, reference: u32, class: ObjectClass<'_>) -> Exception
+    requires { IsNumberOf parts.now.program class.number class.name.now }
+    ensures { (o : Object) → class.entry.name.now ≡ class_of o → result
         ≡ failed_with parts.now.program parts.now.limits parts.now.state called reference o }
 {
     if is_replaced(parts, called, class) {
@@ -144,9 +158,10 @@ fn unwound_by_top<'p>(
     t: ThreadId,
     thread: &Thread,
     reference: u32,
-    class: &[u16],
+    class: ObjectClass<'_>,
 ) -> Decided<'p>
-    ensures { (o : Object) → class.now ≡ class_of o → decision_value result
+    requires { IsNumberOf parts.now.program class.number class.name.now }
+    ensures { (o : Object) → class.entry.name.now ≡ class_of o → decision_value result
         ≡ top_decision parts.now.program parts.now.limits parts.now.state t thread.now.frames
         reference o }
 {
@@ -181,7 +196,7 @@ pub fn unwinding_decision<'p>(
     ensures { decision_value result ≡ unwinding_decision parts.now.program
         parts.now.limits parts.now.state t thread.now reference }
 {
-    match parts.heap.class_of(reference) {
+    match parts.heap.object_class(reference) {
         None => never_seen(),
         Some(class) => unwound_by_top(parts, t, thread, reference, class),
     }
@@ -192,10 +207,10 @@ fn throwable_decision<'p>(parts: &Parts<'p>, thread: &Thread, reference: u32) ->
     ensures { decision_value result ≡ with_object_of parts.now.limits parts.now.state thread.now
         (value.Reference reference) (throwable_decision parts.now.program) }
 {
-    match parts.heap.class_of(reference) {
+    match parts.heap.object_class(reference) {
         None => never_seen(),
         Some(class) => {
-            if parts.program().fits(class, &THROWABLE) {
+            if class.fits(parts.program(), &THROWABLE) {
                 Decision::Applies(Action::Throws { reference })
             } else {
                 bad(BadCause::Kind)

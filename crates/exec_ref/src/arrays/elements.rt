@@ -98,9 +98,9 @@ fn fits_component(parts: &Parts, class: &[u16], value: Value) -> bool
     let Value::Reference(reference) = value else {
         return true;
     };
-    match parts.heap.class_of(reference) {
+    match parts.heap.object_class(reference) {
         None => false,
-        Some(stored) => parts.program().fits(stored, component_class(class)),
+        Some(stored) => stored.fits(parts.program(), component_class(class)),
     }
 }
 

@@ -82,8 +82,8 @@ pub fn begin(parts: &mut Parts, t: ThreadId, class: ClassNumber) -> Result<(), A
 {
     let texts = parts.texts_to_make(class)?;
     begin_frame(parts, t, class, texts.as_slice())?;
-    if let Some(class) = parts.program().class(class) {
-        parts.store_constants(class);
+    if let Some(c) = parts.program().class(class) {
+        parts.store_constants(class, c);
     }
     mark(parts, class, Initialisation::InProgress { thread: t });
     Ok(())

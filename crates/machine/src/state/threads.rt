@@ -7,7 +7,7 @@ ghost use Rattle.machine.specs.Views.{thread_at, frame_at, frame_of, uncaught};
 use crate::machine::Machine;
 use frames::Frame;
 use jvms_machine::machine::ThreadId;
-use jvms_machine::state::StackFrame;
+use jvms_machine::state::{StackFrame, Wait};
 use jvms_program::number::ClassNumber;
 use machine_thread::Thread;
 
@@ -73,6 +73,15 @@ impl<'p> Machine<'p> {
     {
         let thread = self.thread(t)?;
         thread.pending()
+    }
+
+    /// Returns what a thread waits for, from its call of `wait` until it has retaken the monitor, notified or not: the object,
+    /// and the entry count that the monitor is given back (JLS 17.2).
+    pub fn wait(&self, t: ThreadId) -> Option<Wait>
+        ensures { result ≡ option_and_then (λ x. x.waits) (thread_at self.now t) }
+    {
+        let thread = self.thread(t)?;
+        thread.waits()
     }
 
     /// Returns the number of a thread's frames, those of initialisations included (JVMS 2.5.2). Returns `None` for a

@@ -39,7 +39,7 @@ fn print_halt(
     requires { IsTrue (fits program.now plan.now) }
 {
     match halted {
-        Halted::WorkerFailed(book) => judge(host, program, plan, workers, book),
+        Halted::WorkerFailed { book, .. } => judge(host, program, plan, workers, book),
         Halted::Memory => eprintln!(host; "run_campaign: G04 Memory").ok(),
         Halted::TooManyJobs | Halted::TooManyWorkers => None,
     }

@@ -17,7 +17,7 @@ fn answer_of(rt: &HostRuntime, session: &mut Session<'_>, line: &[u8]) -> Result
     if answer != Err(DebugFault::Memory) {
         return answer;
     }
-    refused::print(rt, "command", &DebugFault::Memory);
+    let _printed = eprintln!(rt; "command: {}", DebugFault::Memory);
     carry_out(rt.alloc(), session, line)
 }
 

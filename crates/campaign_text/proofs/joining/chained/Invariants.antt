@@ -2,5 +2,5 @@
 use Rattle.campaign_text.specs.Joined.{AreChained}
 use Rattle.campaign_text.proofs.joining.chained.Given as goal
 
-abbrev pub invariant-loop-round : goal.invariant-loop-round
-invariant-loop-round l = AreChained l.parts l.results.items
+abbrev pub invariant-loop-place : goal.invariant-loop-place
+invariant-loop-place l = AreChained l.parts l.results.items

@@ -1,6 +1,4 @@
-use Rattle.std.proofs.Common.{subst}
-use Rattle.program.specs.Tables.{IsAbove}
-use Rattle.program.proofs.LinkLaws.{further_up, here}
+use Rattle.program.proofs.LinkLaws.{here, up_up}
 use Rattle.program.proofs.list.Program.is_below.Goals as goal
 
 pub loop-init : goal.loop-init
@@ -8,6 +6,5 @@ loop-init c = here c.args.self.now c.args.class
 
 pub loop-preserved : goal.loop-preserved
 loop-preserved c =
-    let link = c.in-Some.ensures in
-    let up = subst (λ p. IsAbove c.args.self.now link.0 p) c.in-Some-above.is link.2.above in
-    further_up c.args.self.now c.args.class c.loop.at c.in-Some-above.next link.0 c.loop.invariant link.1 up
+    let middle = c.in-Some.ensures.class in
+    up_up c.args.self.now c.args.class c.loop.at c.in-Some.next middle.0 c.loop.invariant middle.1 c.in-Some.ensures.up

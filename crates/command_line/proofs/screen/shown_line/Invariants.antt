@@ -1,0 +1,8 @@
+use Rattle.std.proofs.Common.{◌≡◌}
+use Rattle.std.specs.List.{flat_map}
+use Rattle.std.specs.String.{string_bytes}
+use Rattle.command_line.specs.Screen.{shown_character}
+use Rattle.command_line.proofs.screen.shown_line.Given as goal
+
+abbrev pub invariant-loop-character : goal.invariant-loop-character
+invariant-loop-character l = string_bytes l.shown ≡ flat_map shown_character l.yielded

@@ -1,0 +1,2 @@
+pub mod JobNumbers
+pub mod Screen

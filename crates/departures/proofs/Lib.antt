@@ -1,0 +1,11 @@
+pub mod Costs
+pub mod Cover
+pub mod Defaults
+pub mod Distinct
+pub mod Lists
+pub mod Moves
+pub mod Names
+pub mod Reduction
+pub mod Tree
+pub mod Walks
+pub mod Within

@@ -1,0 +1,2 @@
+mod Covering
+mod Ended

@@ -1,0 +1,22 @@
+//! Laws about what an exploration covers: each is the contract of a function that does nothing.
+
+ghost use Rattle.std.specs.Prelude.{ℕ, ◌≤◌, List, IsTrue, length};
+ghost use Rattle.explore_laws.specs.Coverage.{EndsWell, IsWholeRun, JobsEndWell};
+ghost use Rattle.jvms_machine.specs.Limits.{are_limits};
+ghost use Rattle.jvms_machine.specs.Start.{IsStart, Start};
+ghost use Rattle.jvms_machine.specs.State.{Sound, State};
+ghost use Rattle.jvms_machine.specs.declared.machine.Limits.{Limits};
+ghost use Rattle.jvms_program.specs.Program.{IsProgram};
+ghost use Rattle.jvms_program.specs.declared.program.Class.{Class};
+ghost use Rattle.velodrome.specs.Specification.{Specification};
+
+/// Proves that jobs speak for all runs: if the runs of all jobs up to a level end well, so does each run that ends and has
+/// at most as many departures, and it has no more than the turns of a job.
+pub fn jobs_speak_for_all_runs()
+    ensures { (program : List Class) (limits : Limits) (start : Start)
+        → IsProgram program → IsTrue (are_limits limits) → IsStart start
+        → (lines : Specification) (turns : ℕ) (s : State) (most : ℕ) → Sound program limits s
+        → JobsEndWell program limits start lines turns s most → (choices : List ℕ)
+        → IsWholeRun program limits start s most choices
+        → (length choices ≤ turns) × EndsWell program limits start lines s choices }
+{}

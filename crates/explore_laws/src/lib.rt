@@ -1,0 +1,4 @@
+//! Laws about what an exploration of a program covers.
+#![tactic(auto)]
+
+pub mod laws;

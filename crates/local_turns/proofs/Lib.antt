@@ -1,0 +1,9 @@
+pub mod Covered
+pub mod Examples
+pub mod Heaps
+pub mod Items
+pub mod Judging
+pub mod Natives
+pub mod Same
+pub mod Settled
+pub mod Turned
