@@ -1,5 +1,5 @@
-"""What failing_memory.py runs: for each name the program, its words, its standard input, the folder in which it runs, and the
-calls that have to be refused in some of its runs."""
+"""What failing_memory.py runs: for each name the program, its words, its standard input, the folder in which it runs, and what
+has to be refused in some of its runs: calls by their names, or a command with these ends of its last line."""
 from pathlib import Path
 from typing import NamedTuple
 
@@ -42,6 +42,12 @@ class Case(NamedTuple):
     refusable: tuple = ()
 
 
+# How a command is refused in some of its runs: memory ran out in its script, and before it.
+REFUSALS = {"debug": ("S03 Memory", "M03 Memory")}
+# What a refused call says, where that is the text of its error.
+SAID = {"command": "B07 Memory"}
+
+
 def commands(folder):
     """Returns the commands of jvmx. They write into a folder."""
     source, spec, trace = THREADS / "LostUpdate.j", THREADS / "atomic.spec", folder / "trace"
@@ -59,7 +65,7 @@ def commands(folder):
         "asm": ["asm", EXAMPLES / "G.j", folder / "G.class"],
         "list": ["list", EXAMPLES / "G.class"],
     }
-    return {name: Case("jvmx", words, SCRIPT, folder) for name, words in words.items()}
+    return {name: Case("jvmx", words, SCRIPT, folder, REFUSALS.get(name, ())) for name, words in words.items()}
 
 
 # The calls of each part, as `repeated_calls` names them; `serial` only of an atomic trace.

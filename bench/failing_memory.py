@@ -129,20 +129,36 @@ def is_refusal(words, ran, ample):
     return ran.status == 3 and bool(REFUSAL.match(last)) and ample.out.startswith(ran.out)
 
 
-def try_command(command, jobs, _):
-    """Runs a command of jvmx, and returns how many runs were refused, and how many ended as with ample memory."""
+def unseen(wanted, lasts):
+    """Returns the ends of lines that no line has."""
+    return [end for end in wanted if not any(last.endswith(end) for last in lasts)]
+
+
+def try_command(command, jobs, refusals):
+    """Runs a command of jvmx, and returns how many runs were refused, and how many ended as with ample memory. Each of these
+    refusals has to be among them."""
     ample = command.run(0)
     refused = same = 0
+    lasts = set()
     for number, ran in command.runs(ample, jobs):
         if ran.is_like(ample):
             same += 1
         elif is_refusal(command.words, ran, ample):
             refused += 1
+            lasts.add(ran.err.splitlines()[-1])
         else:
             sys.exit(f"allocation {number} of {command.words}: {ran}, but with ample memory {ample}")
     if not refused:
         sys.exit(f"{command.words}: 0 runs were refused, and {same} ended as with ample memory")
+    if missing := unseen(refusals, lasts):
+        sys.exit(f"{command.words}: none of {refused} refused runs ended in {' or '.join(missing)}")
     return f"{refused} refused, {same} ended as with ample memory"
+
+
+def is_said(line):
+    """Returns whether the line of a refused call says what it should."""
+    call, _, said = line.partition(": ")
+    return said == failing_cases.SAID.get(call, said)
 
 
 def try_calls(command, jobs, refusable):
@@ -155,7 +171,7 @@ def try_calls(command, jobs, refusable):
     allocations = 0
     for number, ran in command.runs(ample, jobs):
         lines = ran.err.splitlines()
-        if ran.status or ran.out != ample.out or len(lines) > 1:
+        if ran.status or ran.out != ample.out or len(lines) > 1 or not all(map(is_said, lines)):
             sys.exit(f"allocation {number} of {command.words}: {ran}, but with ample memory {ample}")
         calls.update(line.partition(": ")[0] for line in lines)
         allocations += 1

@@ -5,8 +5,9 @@ twice the first. Prints the processor's seconds and the most memory of both, and
     bench/hostile.py [--jvmx PROGRAM] [--seed N] [--size MIB] [--only NAME..] [--list]
 
 The exit status is 1 where an input that isn't in KNOWN grows a run faster than itself, ends it by a signal or not at all,
-takes all memory, or has an answer that its shape doesn't have. The files hostile_*.py have the shapes. A size is in MiB, or
-a whole number of turns, jobs or classes. Many shapes make thousands of files: TMPDIR=/dev/shm keeps them in memory.
+takes all memory, goes beyond the bound of its shape, or has an answer that its shape doesn't have. The files hostile_*.py
+have the shapes. A size is in MiB, or a whole number of turns, jobs or classes. Many shapes make thousands of files:
+TMPDIR=/dev/shm keeps them in memory.
 """
 import argparse
 import collections
@@ -32,6 +33,7 @@ import hostile_texts  # noqa: E402, F401, I001
 import hostile_traces  # noqa: E402, F401
 import hostile_runs  # noqa: E402, F401
 import hostile_debug  # noqa: E402, F401
+import hostile_members  # noqa: E402, F401
 from hostile_shapes import MIB, SHAPES, TRIALS, encoded  # noqa: E402
 
 # How many times more than its input a run may grow, and from where on it counts.
@@ -57,7 +59,7 @@ KNOWN = {
     "open_in_order",
     # A link that leads back moves all live ones after it (atom_order::graph, link_at).
     "moved_back",
-    # A turn of instanceof walks up all interfaces above (classes::subtypes): no square, but beyond a cache it grows threefold.
+    # A turn of instanceof walks through the ancestry where the sets of classes above have ended (classes::class_sets).
     "tests_of_interfaces",
     "tests_of_missing_class",
 }
@@ -153,17 +155,24 @@ def fault(ran, answers):
 def measured(words, name, folders):
     """Runs a shape at both sizes, again where it grew too fast; returns both runs, whether sizes are counts, and what is
     wrong."""
-    make, answers = SHAPES[name]
-    sizes = [words.size * MIB // 2, words.size * MIB]
-    plans = [planned(lambda n: make(int(n), random.Random(f"{words.seed} {name}")), *pair) for pair in zip(sizes, folders)]
+    shape = SHAPES[name]
+    most = shape.bound.count if shape.bound else words.size * MIB
+    sizes = [most // 2, most]
+    seed = f"{words.seed} {name}"
+    plans = [planned(lambda n: shape.make(int(n), random.Random(seed)), *pair) for pair in zip(sizes, folders)]
     both = ran_once(words, plans, folders)
-    wrong = next(filter(None, (fault(ran, answers) for ran in both)), "")
-    for _ in range(0 if name in KNOWN else REPEATS):
-        if not wrong and is_faster(*both):
+    wrong = next(filter(None, (fault(ran, shape.answers) for ran in both)), "")
+    for _ in range(0 if wrong or name in KNOWN else REPEATS):
+        if excess(shape, both):
             both = [least(*pair) for pair in zip(both, ran_once(words, plans, folders))]
-    if not wrong and is_faster(*both):
-        wrong = "grows"
-    return *both, plans[1]["is_count"], wrong
+    return *both, plans[1]["is_count"], wrong or excess(shape, both)
+
+
+def excess(shape, both):
+    """Returns what is wrong with the seconds and the memory of both runs of a shape, or nothing."""
+    if is_faster(*both):
+        return "grows"
+    return "beyond its bound" if shape.bound and both[1].seconds > shape.bound.seconds else ""
 
 
 def ran_once(words, plans, folders):
@@ -207,7 +216,7 @@ def read_words():
 
 def listed():
     """Prints the shapes."""
-    for name, make in [*((name, make) for name, (make, _) in SHAPES.items()), *TRIALS.items()]:
+    for name, make in [*((name, shape.make) for name, shape in SHAPES.items()), *TRIALS.items()]:
         print(f"{name:22s} {make.__doc__}")
 
 

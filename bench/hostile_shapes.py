@@ -2,8 +2,7 @@
 from dataclasses import dataclass
 
 MIB = 1 << 20
-# Every shape: a function of a size in bytes and a generator of random numbers that returns an Input, and the answers that it
-# may have: a code of a refusal, a status of a run, or an exit status. No answers: any.
+# Every shape by its name.
 SHAPES = {}
 # Every trial: a function of a generator of random numbers that returns a small Input. It is tried many times.
 TRIALS = {}
@@ -23,14 +22,37 @@ class Input:
         return self.count or len(self.script) + sum(len(data) for data in self.files.values())
 
 
-def add(name, make, answers):
+@dataclass
+class Bound:
+    """A size of a shape's own, a count, and the most seconds of a processor that a run of it may take."""
+
+    count: int
+    seconds: float
+
+
+@dataclass
+class Shape:
+    """A function of a size in bytes, or of a count where there is a bound, and of a generator of random numbers, that returns
+    an Input; and the answers that it may have: a code of a refusal, a status of a run, or an exit status. No answers: any."""
+
+    make: object
+    answers: tuple
+    bound: Bound = None
+
+
+def add(name, make, answers, bound=None):
     """Adds a shape under a name."""
-    SHAPES[name] = (make, answers)
+    SHAPES[name] = Shape(make, answers, bound)
 
 
 def shape(*answers):
     """Adds a function as the shape of its name."""
     return lambda make: add(make.__name__, make, answers) or make
+
+
+def bounded(count, seconds, *answers):
+    """Adds a function as the shape of its name, with a bound of a processor's seconds at a count."""
+    return lambda make: add(make.__name__, make, answers, Bound(count, seconds)) or make
 
 
 def trial(make):
