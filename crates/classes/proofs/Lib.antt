@@ -1,16 +1,21 @@
 pub mod AncestorLaws
 pub mod ChainLaws
+pub mod DeclarationLaws
 pub mod HierarchyLaws
 pub mod MarkLaws
 pub mod MethodLaws
 pub mod NumberLaws
 mod MethodNamesLaws
+pub mod PersistentArrayLaws
 pub mod PlaceLaws
+pub mod SubtypeLaws
+pub mod UnionLaws
 pub mod WalkLaws
 pub mod SearchLaws
 pub mod MarkingLaws
 pub mod WayLaws
 pub mod AlongLaws
 pub mod NamesLaws
+pub mod SetLaws
 pub mod SlotLaws
 pub mod StartLaws

@@ -1,10 +1,12 @@
 pub mod Ancestors
 pub mod Chains
+pub mod Declarations
 pub mod Hierarchy
 pub mod Marks
 pub mod MethodNames
 pub mod Numbers
 pub mod Ordered
+pub mod PersistentArrays
 pub mod Places
 pub mod Searches
 pub mod Slots

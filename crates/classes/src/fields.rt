@@ -18,10 +18,12 @@ use jvms_program::thrown::Thrown;
 fn reference_field(program: &Classes, r: &FieldReference) -> Option<FieldNumber>
     ensures { LocatesItem (IsFieldAt program.now) (reference_field program.now r.now) result }
 {
-    let look = DeclaredField {
-        name: r.name.as_slice(),
-        descriptor: r.descriptor.as_slice(),
-    };
+    let name = r.name.as_slice();
+    let descriptor = r.descriptor.as_slice();
+    if !program.may_declare_field(name, descriptor) {
+        return None;
+    }
+    let look = DeclaredField { name, descriptor };
     field_number_at(first_in_ancestry(program, members_class(r.class.as_slice()), &look))
 }
 

@@ -5,11 +5,13 @@ ghost use Rattle.std.specs.Option.{option_map, unwrap_or};
 ghost use Rattle.jvms_program.specs.BuiltIn.{is_built_in};
 ghost use Rattle.jvms_program.specs.Program.{IsProgram, class_named, class_number, method_at, key_of};
 ghost use Rattle.jvms_program.specs.Resolution.{chain, names_interface};
+ghost use Rattle.classes.specs.Declarations.{HasNoField, HasNoMethod};
 ghost use Rattle.classes.specs.Hierarchy.{chain_up};
 ghost use Rattle.classes.specs.Ordered.{IsOrderedOf};
 ghost use Rattle.classes.specs.Slots.{AreCountable};
 
 use crate::class_list::ClassList;
+use crate::declarations::Declarations;
 use crate::hierarchy::{Hierarchy, hierarchy_of};
 use crate::lookup::method_of;
 use crate::ranked::Ranked;
@@ -25,11 +27,13 @@ use std::marker::Model;
 pub struct Classes {
     list: ClassList,
     hierarchy: Hierarchy,
+    declared: Declarations,
 }
 
 impl Model for Classes {
     ghost use Rattle.std.specs.Prelude.{List};
     ghost use Rattle.jvms_program.specs.declared.program.Class.{Class};
+    ghost use Rattle.classes.specs.Declarations.{AreThoseOf, fields_of, methods_of};
     ghost use Rattle.classes.specs.Hierarchy.{IsHierarchyOf};
 
     ghost Value = { List Class };
@@ -37,7 +41,9 @@ impl Model for Classes {
     ghost view = { λ p. p.list };
 
     ghost invariant = { λ p. IsHierarchyOf p.list p.hierarchy.supers.items
-        p.hierarchy.ranks.items p.hierarchy.order.items };
+        p.hierarchy.ranks.items p.hierarchy.order.items
+        × AreThoseOf (fields_of p.list) p.declared.fields
+        × AreThoseOf (methods_of p.list) p.declared.methods };
 }
 
 /// The result of ordering a list of classes.
@@ -54,10 +60,15 @@ impl Classes {
     pub fn ordered(alloc: Global, list: ClassList) -> Result<Ordered, AllocError>
         ensures { IfOk result (λ ordered. IsOrderedOf list ordered) }
     {
-        match hierarchy_of(alloc, &list)? {
-            Some(hierarchy) => Ok(Ordered::Classes(Classes { list, hierarchy })),
-            None => Ok(Ordered::Unordered(list)),
-        }
+        let Some(hierarchy) = hierarchy_of(alloc, &list)? else {
+            return Ok(Ordered::Unordered(list));
+        };
+        let declared = Declarations::of(alloc, list.classes())?;
+        Ok(Ordered::Classes(Classes {
+            list,
+            hierarchy,
+            declared,
+        }))
     }
 
     /// States that the classes are a program: the built-in classes come first, and types are those that descriptors
@@ -114,6 +125,20 @@ impl Classes {
             ranks: self.hierarchy.ranks.as_slice(),
             order: self.hierarchy.order.as_slice(),
         }
+    }
+
+    /// Returns whether a class may declare a field of this name and descriptor. If not, none does.
+    pub(crate) fn may_declare_field(&self, name: &[u16], descriptor: &[u16]) -> bool
+        ensures { result ≡ false → HasNoField self.now name.now descriptor.now }
+    {
+        self.declared.fields.number_of(name, descriptor).is_some()
+    }
+
+    /// Returns whether a class may declare a method of this name and descriptor. If not, none does.
+    pub(crate) fn may_declare_method(&self, name: &[u16], descriptor: &[u16]) -> bool
+        ensures { result ≡ false → HasNoMethod self.now name.now descriptor.now }
+    {
+        self.declared.methods.number_of(name, descriptor).is_some()
     }
 
     /// Returns the classes in order.

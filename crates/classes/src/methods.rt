@@ -30,6 +30,9 @@ fn method_in_order(program: &Classes, r: MethodNames) -> Option<MethodNumber>
     ensures { LocatesItem (IsMethodAt program.now)
         (method_in_order program.now (reference r.entry)) result }
 {
+    if !program.may_declare_method(r.name, r.descriptor) {
+        return None;
+    }
     let look = DeclaredMethod {
         name: r.name,
         descriptor: r.descriptor,

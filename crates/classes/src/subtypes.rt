@@ -29,9 +29,13 @@ fn letter_of(primitive: Primitive) -> u16
 }
 
 /// Decides whether a class or one above it has a name.
+#[tactic(auto, using(crate::proofs::SubtypeLaws::none_named))]
 fn is_above(program: &Classes, name: &[u16], class: &[u16]) -> bool
     ensures { result ≡ names_class name.now (ancestry program.now class.now) }
 {
+    if program.class_named(name).is_none() {
+        return false;
+    }
     first_in_ancestry(program, class, &ClassNamed { name }).is_some()
 }
 

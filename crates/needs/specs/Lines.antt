@@ -8,7 +8,6 @@ use Rattle.escapes.specs.Escapes.{name_text}
 use Rattle.escapes.specs.Keys.{member_text, method_text}
 use Rattle.jvms_file.specs.declared.class_file.ClassFile.{ClassFile}
 use Rattle.jvms_program.specs.declared.key.MethodKey.{MethodKey}
-use Rattle.jvms_program.specs.declared.number.MethodNumber.{MethodNumber}
 use Rattle.jvms_program.specs.declared.program.Body.{Body}
 use Rattle.jvms_program.specs.declared.program.Class.{Class}
 use Rattle.jvms_program.specs.declared.program.Instruction.{Instruction}
@@ -17,7 +16,7 @@ use Rattle.jvms_program.specs.declared.thrown.Thrown.{Thrown}
 use Rattle.jvms_program.specs.declared.thrown.Thrown.TheVariants as thrown
 use Rattle.jvms_program.specs.BuiltIn.{is_built_in}
 use Rattle.jvms_program.specs.Program.{key_in}
-use Rattle.source_lines.specs.SourceLines.{source_place}
+use Rattle.source_lines.specs.SourceLines.{file_of, place_in}
 use Rattle.needs.specs.declared.lack.Lack.{Lack}
 use Rattle.needs.specs.declared.lack.Lack.TheVariants as lack
 use Rattle.needs.specs.Hints.{hint_of, is_absence, unnamed_hint}
@@ -68,10 +67,9 @@ need_text program i = need_if i (lack_of program i)
 abbrev pub instruction_text : MethodKey → ℕ → List ℕ
 instruction_text method place = method_text method ++ codes " @" ++ decimal place
 
--- Returns `C.m.D @i (F.java:12) `, with the place in the source.
-abbrev pub place_text : ℕ → List ClassFile → MethodNumber → MethodKey → ℕ → List ℕ
-place_text first files number method place =
-    instruction_text method place ++ source_place first files number place ++ codes " "
+-- Returns `C.m.D @i (F.java:12) `, with the place in the source, which the class file has. `number` is the method's.
+abbrev pub place_text : Option ClassFile → ℕ → MethodKey → ℕ → List ℕ
+place_text file number method place = instruction_text method place ++ place_in file number place ++ codes " "
 
 abbrev pub need_line : List ℕ → Instruction → Lack → List ℕ
 need_line place i lack = place ++ reason_text lack i ++ codes "\n"
@@ -92,13 +90,12 @@ body_lines program text_of None = []
 body_lines program text_of (Some body) = flat_map (instruction_line program text_of) (enumerate_from 0 body.instructions)
 
 -- Returns the lines of a method of a class.
-abbrev pub method_lines : List Class → ℕ → List ClassFile → ℕ × Class → ℕ × Method → List ℕ
-method_lines program first files c m =
-    body_lines program (place_text first files (record { class = c.0; method = m.0 }) (key_in c.1 m.1)) m.1.body
+abbrev pub method_lines : List Class → Option ClassFile → Class → ℕ × Method → List ℕ
+method_lines program file c m = body_lines program (place_text file m.0 (key_in c m.1)) m.1.body
 
 abbrev pub class_lines : List Class → ℕ → List ClassFile → ℕ × Class → List ℕ
 class_lines program first files c =
-    if is_built_in c.1.name then [] else flat_map (method_lines program first files c) (enumerate_from 0 c.1.methods)
+    if is_built_in c.1.name then [] else flat_map (method_lines program (file_of first files c.0) c.1) (enumerate_from 0 c.1.methods)
 
 abbrev pub needs_text : List Class → ℕ → List ClassFile → List ℕ
 needs_text program first files = flat_map (class_lines program first files) (enumerate_from 0 program)

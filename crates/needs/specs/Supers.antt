@@ -1,7 +1,7 @@
 -- Defines the lines of missing superclasses and superinterfaces of class files (own). They follow the order of the
 -- files, and in each the superclass precedes the superinterfaces. There are none if and only if linking finds none that
 -- is missing (JVMS 5.3.5).
-use Rattle.std.specs.Prelude.{ℕ, List, [], ◌∷◌, ◌++◌, None, Some, codes, if◌then◌else◌, is_some, map}
+use Rattle.std.specs.Prelude.{ℕ, List, [], ◌++◌, None, Some, codes, if◌then◌else◌, is_some, map}
 use Rattle.std.specs.List.{flat_map}
 use Rattle.std.specs.Option.{option_to_list}
 use Rattle.escapes.specs.Escapes.{name_text}
@@ -10,7 +10,6 @@ use Rattle.jvms_program.specs.declared.program.Class.{Class}
 use Rattle.jvms_program.specs.declared.thrown.Thrown.TheVariants as thrown
 use Rattle.jvms_program.specs.Meaning.{meaning}
 use Rattle.jvms_program.specs.Program.{class_named, program_of}
-use Rattle.needs.specs.declared.lack.Lack.{Lack}
 use Rattle.needs.specs.declared.lack.Lack.TheVariants as lack
 use Rattle.needs.specs.Lines.{reason_of}
 

@@ -9,11 +9,10 @@ use crate::hint::{hint_of, is_absence, unnamed_hint};
 use crate::lack::{Lack, lack_of};
 use crate::named::{class_named, member_named};
 use escapes::{MethodKey, put_member, put_method, put_name, put_number};
-use jvms_program::number::MethodNumber;
 use jvms_program::program::Instruction;
 use jvms_program::thrown::Thrown;
 use program::Program;
-use source_lines::{SourceFiles, put_place};
+use source_lines::MethodSource;
 use std::alloc::AllocError;
 
 /// Returns the name of an error that resolution throws.
@@ -114,13 +113,6 @@ pub fn put_need(
     }
 }
 
-/// A method of a program, with its number and its key.
-#[derive(Drop)]
-pub(crate) struct NumberedMethod {
-    pub(crate) number: MethodNumber,
-    pub(crate) key: MethodKey,
-}
-
 /// Appends an instruction of a method: `C.m.D @i`.
 fn put_instruction(out: &mut String, method: &MethodKey, place: usize) -> Result<(), AllocError>
     ensures { OnOk result (string_bytes out.new ≡ string_bytes out.old
@@ -135,15 +127,15 @@ fn put_instruction(out: &mut String, method: &MethodKey, place: usize) -> Result
 /// Appends the place of a method's instruction, and its place in the source.
 fn put_place_of(
     out: &mut String,
-    sources: &SourceFiles,
-    method: &NumberedMethod,
+    source: &MethodSource,
+    method: &MethodKey,
     place: usize,
 ) -> Result<(), AllocError>
-    ensures { OnOk result (string_bytes out.new ≡ string_bytes out.old ++ place_text
-        sources.now.first sources.now.files.now method.now.number method.now.key place) }
+    ensures { OnOk result (string_bytes out.new ≡ string_bytes out.old
+        ++ place_text source.now.0 source.now.1 method.now place) }
 {
-    put_instruction(out, &method.key, place)?;
-    put_place(out, sources, method.number, place)?;
+    put_instruction(out, method, place)?;
+    source.put_place(out, place)?;
     out.push_str(" ")?;
     Ok(())
 }
@@ -151,17 +143,16 @@ fn put_place_of(
 /// Appends the line of a method's instruction that can't run.
 pub(crate) fn put_need_line(
     out: &mut String,
-    sources: &SourceFiles,
-    method: &NumberedMethod,
+    source: &MethodSource,
+    method: &MethodKey,
     place: usize,
     instruction: &Instruction,
     lack: Lack,
 ) -> Result<(), AllocError>
-    ensures { OnOk result
-        (string_bytes out.new ≡ string_bytes out.old ++ need_line (place_text sources.now.first
-        sources.now.files.now method.now.number method.now.key place) instruction.now lack) }
+    ensures { OnOk result (string_bytes out.new ≡ string_bytes out.old ++ need_line
+        (place_text source.now.0 source.now.1 method.now place) instruction.now lack) }
 {
-    put_place_of(out, sources, method, place)?;
+    put_place_of(out, source, method, place)?;
     put_reason(out, lack, instruction)?;
     out.push_str("\n")
 }

@@ -1,21 +1,28 @@
 //! Writes the lines of all instructions of a program that can't run.
 
-ghost use Rattle.std.specs.Prelude.{◌≡◌, ◌++◌, IfOk, OnOk};
+ghost use Rattle.std.specs.Prelude.{◌≡◌, ◌++◌, ◌≤◌, IfOk, OnOk, drop, length, position};
 ghost use Rattle.std.specs.List.{enumerate_from, flat_map};
+ghost use Rattle.std.specs.Option.{is_some};
 ghost use Rattle.std.specs.String.{string_bytes};
 ghost use Rattle.jvms_program.specs.Program.{key_in};
 ghost use Rattle.needs.specs.Lacks.{lack_of};
 ghost use Rattle.needs.specs.Lines.{body_lines, class_lines, instruction_line, line_if, method_lines, needs_text, place_text};
 
 use crate::lack::lack_of;
-use crate::line::{NumberedMethod, put_need_line};
+use crate::line::put_need_line;
 use built_in::is_built_in;
 use escapes::MethodKey;
-use jvms_program::number::MethodNumber;
 use jvms_program::program::{Body, Class, Instruction, Method};
 use program::Program;
-use source_lines::SourceFiles;
+use source_lines::{ClassSource, MethodSource, SourceFiles};
 use std::alloc::AllocError;
+
+/// A method of a class, by its number there and its key.
+#[derive(Drop)]
+struct NumberedMethod {
+    number: usize,
+    key: MethodKey,
+}
 
 /// Returns the key of a method, with the class that declares it.
 fn key_in(class: &Class, method: &Method) -> Result<MethodKey, AllocError>
@@ -32,56 +39,84 @@ fn key_in(class: &Class, method: &Method) -> Result<MethodKey, AllocError>
 fn put_instruction(
     out: &mut String,
     program: &Program,
-    sources: &SourceFiles,
-    method: &NumberedMethod,
+    source: &MethodSource,
+    method: &MethodKey,
     place: usize,
     instruction: &Instruction,
 ) -> Result<(), AllocError>
     ensures { OnOk result (string_bytes out.new ≡ string_bytes out.old ++ line_if
-        (place_text sources.now.first sources.now.files.now method.now.number method.now.key place)
+        (place_text source.now.0 source.now.1 method.now place)
         instruction.now (lack_of program.now instruction.now)) }
 {
     match lack_of(program, instruction) {
         None => Ok(()),
-        Some(lack) => put_need_line(out, sources, method, place, instruction, lack),
+        Some(lack) => put_need_line(out, source, method, place, instruction, lack),
     }
 }
 
-/// Appends the lines of a method's instructions.
+/// Appends the lines of the instructions from a place on.
+fn put_instructions_from(
+    out: &mut String,
+    program: &Program,
+    source: &MethodSource,
+    method: &MethodKey,
+    first: usize,
+    instructions: &[Instruction],
+) -> Result<(), AllocError>
+    requires { first ≤ length instructions.now }
+    ensures { OnOk result (string_bytes out.new ≡ string_bytes out.old ++ flat_map
+        (instruction_line program.now (place_text source.now.0 source.now.1 method.now))
+        (enumerate_from first (drop first instructions.now))) }
+{
+    for place in first..instructions.len() {
+        put_instruction(out, program, source, method, place, &instructions[place])?;
+    }
+    Ok(())
+}
+
+/// Returns the place of the first instruction that can't run.
+fn first_place(program: &Program, instructions: &[Instruction]) -> Option<usize>
+    ensures { result ≡ position (λ i. is_some (lack_of program.now i)) instructions.now }
+{
+    instructions
+        .iter()
+        .position(|i| lack_of(program, i).is_some())
+}
+
+/// Appends the lines of a method's instructions. Finds the lines of the source only if one of them can't run.
 fn put_instructions(
     out: &mut String,
     program: &Program,
-    sources: &SourceFiles,
+    source: &ClassSource,
     method: &NumberedMethod,
     instructions: &[Instruction],
 ) -> Result<(), AllocError>
     ensures { OnOk result (string_bytes out.new ≡ string_bytes out.old ++ flat_map
-        (instruction_line program.now
-        (place_text sources.now.first sources.now.files.now method.now.number method.now.key))
+        (instruction_line program.now (place_text source.now method.now.number method.now.key))
         (enumerate_from 0 instructions.now)) }
 {
-    for (place, instruction) in instructions.iter().enumerate() {
-        put_instruction(out, program, sources, method, place, instruction)?;
-    }
-    Ok(())
+    let Some(first) = first_place(program, instructions) else {
+        return Ok(());
+    };
+    let source = source.method(*out.allocator(), method.number)?;
+    put_instructions_from(out, program, &source, &method.key, first, instructions)
 }
 
 /// Appends the lines of a method, if it has code.
 fn put_body(
     out: &mut String,
     program: &Program,
-    sources: &SourceFiles,
+    source: &ClassSource,
     method: &NumberedMethod,
     body: &Option<Body>,
 ) -> Result<(), AllocError>
     ensures { OnOk result (string_bytes out.new ≡ string_bytes out.old ++ body_lines program.now
-        (place_text sources.now.first sources.now.files.now method.now.number method.now.key)
-        body.now) }
+        (place_text source.now method.now.number method.now.key) body.now) }
 {
     match body {
         None => Ok(()),
         Some(body) => {
-            put_instructions(out, program, sources, method, body.instructions.as_slice())
+            put_instructions(out, program, source, method, body.instructions.as_slice())
         }
     }
 }
@@ -90,44 +125,37 @@ fn put_body(
 fn put_method_lines(
     out: &mut String,
     program: &Program,
-    sources: &SourceFiles,
+    source: &ClassSource,
     class: &Class,
-    number: MethodNumber,
+    number: usize,
     method: &Method,
 ) -> Result<(), AllocError>
     ensures { OnOk result (string_bytes out.new ≡ string_bytes out.old
-        ++ method_lines program.now sources.now.first sources.now.files.now
-        (number.class, class.now) (number.method, method.now)) }
+        ++ method_lines program.now source.now class.now (number, method.now)) }
 {
     let key = key_in(class, method)?;
     put_body(
         out,
         program,
-        sources,
+        source,
         &NumberedMethod { number, key },
         &method.body,
     )
 }
 
-/// Appends the lines of all methods of class `number`.
+/// Appends the lines of all methods of a class.
 fn put_methods(
     out: &mut String,
     program: &Program,
-    sources: &SourceFiles,
-    number: usize,
+    source: &ClassSource,
     class: &Class,
 ) -> Result<(), AllocError>
     ensures { OnOk result (string_bytes out.new ≡ string_bytes out.old ++ flat_map
-        (method_lines program.now sources.now.first sources.now.files.now (number, class.now))
-        (enumerate_from 0 class.now.methods)) }
+        (method_lines program.now source.now class.now) (enumerate_from 0 class.now.methods)) }
 {
     let methods = class.methods.as_slice();
     for (place, method) in methods.iter().enumerate() {
-        let number = MethodNumber {
-            class: number,
-            method: place,
-        };
-        put_method_lines(out, program, sources, class, number, method)?;
+        put_method_lines(out, program, source, class, place, method)?;
     }
     Ok(())
 }
@@ -146,7 +174,7 @@ fn put_class(
     if is_built_in(class.name.as_slice()) {
         return Ok(());
     }
-    put_methods(out, program, sources, number, class)
+    put_methods(out, program, &sources.source_of(number), class)
 }
 
 /// Appends the lines of all classes of a program.

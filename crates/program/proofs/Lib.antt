@@ -1,7 +1,6 @@
 pub mod TableLaws
 pub mod LinkLaws
 pub mod SubclassLaws
-pub mod PersistentArrayLaws
 pub mod SignatureLaws
 pub mod SelectLaws
 pub mod DispatchLaws

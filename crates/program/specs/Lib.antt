@@ -1,5 +1,4 @@
 pub mod FieldTexts
-pub mod PersistentArrays
 pub mod Resolutions
 pub mod Selections
 pub mod Signatures

@@ -75,12 +75,18 @@ abbrev pub source_text : Option (List ℕ) → Option ℕ → List ℕ
 source_text (Some name) (Some line) = codes " (" ++ name_text name ++ codes ":" ++ decimal line ++ codes ")"
 source_text name line = []
 
+-- Returns the line of an instruction of a method of a class file.
+abbrev pub line_of : ClassFile → ℕ → ℕ → Option ℕ
+line_of file method place =
+    option_and_then (λ m. option_and_then (line_in file.pool place) (code_of m.attributes)) (slice_get file.methods method)
+
 abbrev pub place_in_file : ClassFile → ℕ → ℕ → List ℕ
-place_in_file file method place =
-    source_text (source_name file.pool file.attributes)
-    (option_and_then (λ m. option_and_then (line_in file.pool place) (code_of m.attributes)) (slice_get file.methods method))
+place_in_file file method place = source_text (source_name file.pool file.attributes) (line_of file method place)
+
+-- Returns the source place of a method's instruction, if its class has a file.
+abbrev pub place_in : Option ClassFile → ℕ → ℕ → List ℕ
+place_in file method place = unwrap_or (option_map (λ f. place_in_file f method place) file) []
 
 -- Returns the source place of a method's instruction.
 abbrev pub source_place : ℕ → List ClassFile → MethodNumber → ℕ → List ℕ
-source_place first files method place =
-    unwrap_or (option_map (λ file. place_in_file file method.method place) (file_of first files method.class)) []
+source_place first files method place = place_in (file_of first files method.class) method.method place

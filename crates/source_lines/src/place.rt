@@ -4,7 +4,6 @@ ghost use Rattle.std.specs.Prelude.{◌≡◌, ◌++◌, OnOk};
 ghost use Rattle.std.specs.String.{string_bytes};
 ghost use Rattle.source_lines.specs.SourceLines.{source_place};
 
-use crate::file::put_place_in_file;
 use crate::files::SourceFiles;
 use jvms_program::number::MethodNumber;
 use std::alloc::AllocError;
@@ -20,8 +19,9 @@ pub fn put_place(
     ensures { OnOk result (string_bytes out.new ≡ string_bytes out.old
         ++ source_place sources.now.first sources.now.files.now method place) }
 {
-    match sources.file_of(method.class) {
-        Some(file) => put_place_in_file(out, file, method.method, place),
-        None => Ok(()),
-    }
+    let alloc = *out.allocator();
+    let source = sources
+        .source_of(method.class)
+        .method(alloc, method.method)?;
+    source.put_place(out, place)
 }

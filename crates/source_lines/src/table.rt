@@ -1,13 +1,15 @@
-//! Finds the line of a byte of code, by LineNumberTable attributes (JVMS 4.7.12).
+//! Reads LineNumberTable attributes (JVMS 4.7.12), and finds the line of each byte of a method's code.
 
-ghost use Rattle.std.specs.Prelude.{◌≡◌, ◌≤◌, ◌*◌, None, drop, length};
+ghost use Rattle.std.specs.Prelude.{◌≡◌, ◌≤◌, ◌*◌, None, IfOk, drop, length, replicate, slice_set, Some};
 ghost use Rattle.std.specs.List.{flat_map, fold};
 ghost use Rattle.jvms_file.specs.Bytes.{number};
-ghost use Rattle.source_lines.specs.SourceLines.{is_whole, later_start, line_of_byte, line_starts, starts_in, table_starts};
+ghost use Rattle.source_lines.specs.SourceLines.{is_whole, line_starts, starts_in, table_starts};
+ghost use Rattle.source_lines.specs.Lines.{filled, lines_of_bytes, with_start};
 
 use crate::bytes::u2;
 use crate::pool::is_named;
 use jvms_file::class_file::{Constant, KeptAttribute};
+use std::alloc::{AllocError, Global};
 
 /// The length of an entry of a table, in bytes.
 const ENTRY: usize = 4;
@@ -19,16 +21,13 @@ pub(crate) struct LineStart {
     line: u16,
 }
 
-/// Returns the later of two starts that aren't after a byte. If both are at the same byte, it is the second.
-fn later_start(byte: u32, last: Option<LineStart>, next: LineStart) -> Option<LineStart>
-    ensures { result ≡ later_start byte last next }
+/// Marks the byte of a start with its line. Does nothing for a byte after the last.
+fn mark(lines: &mut [Option<u16>], start: LineStart)
+    ensures { lines.new ≡ with_start lines.old start }
 {
-    let is_reached = u32::from(next.start) <= byte;
-    match last {
-        None if is_reached => Some(next),
-        None => None,
-        Some(last) if is_reached && last.start <= next.start => Some(next),
-        Some(last) => Some(last),
+    let byte = usize::from(start.start);
+    if byte < lines.len() {
+        lines[byte] = Some(start.line);
     }
 }
 
@@ -51,24 +50,17 @@ fn after_first(bytes: &[u8]) -> &[u8]
     &bytes[ENTRY..]
 }
 
-/// Reads entries, and returns the latest start of those and of an earlier one that isn't after a byte.
+/// Reads entries, and marks the bytes of their starts, in order.
 #[tactic(auto, using(crate::proofs::TableLaws::next_start))]
-fn later_of(
-    byte: u32,
-    earlier: Option<LineStart>,
-    count: usize,
-    entries: &[u8],
-) -> Option<LineStart>
+fn mark_starts(lines: &mut [Option<u16>], count: usize, entries: &[u8])
     requires { length entries.now ≡ 4 * count }
-    ensures { result ≡ fold (later_start byte) earlier (line_starts count entries.now) }
+    ensures { lines.new ≡ fold with_start lines.old (line_starts count entries.now) }
 {
-    let mut last = earlier;
     let mut rest = entries;
     for _place in 0..count {
-        last = later_start(byte, last, first_start(rest));
+        mark(lines, first_start(rest));
         rest = after_first(rest);
     }
-    last
 }
 
 /// Returns whether the length of a table's content matches its count.
@@ -78,55 +70,75 @@ fn is_whole(content: &[u8]) -> bool
     content.len() >= 2 && content.len() == 2 + ENTRY * usize::from(u2(content))
 }
 
-/// Reads the content of a table, and returns the latest start of its entries and of an earlier one that isn't after a
-/// byte.
-fn later_in_table(byte: u32, earlier: Option<LineStart>, content: &[u8]) -> Option<LineStart>
-    ensures { result ≡ fold (later_start byte) earlier (table_starts content.now) }
+/// Marks the bytes of the starts of a table.
+fn mark_table(lines: &mut [Option<u16>], content: &[u8])
+    ensures { lines.new ≡ fold with_start lines.old (table_starts content.now) }
 {
     if is_whole(content) {
-        later_of(byte, earlier, usize::from(u2(content)), &content[2..])
-    } else {
-        earlier
+        mark_starts(lines, usize::from(u2(content)), &content[2..]);
     }
 }
 
-/// Returns the latest start of an attribute's entries and of an earlier one that isn't after a byte.
-fn later_in(
-    pool: &[Constant],
-    byte: u32,
-    earlier: Option<LineStart>,
-    attribute: &KeptAttribute,
-) -> Option<LineStart>
-    ensures { result ≡ fold (later_start byte) earlier (starts_in pool.now attribute.now) }
+/// Marks the bytes of the starts of an attribute.
+fn mark_attribute(lines: &mut [Option<u16>], pool: &[Constant], attribute: &KeptAttribute)
+    ensures { lines.new ≡ fold with_start lines.old (starts_in pool.now attribute.now) }
 {
     if is_named(pool, "LineNumberTable", attribute) {
-        later_in_table(byte, earlier, attribute.bytes.as_slice())
-    } else {
-        earlier
+        mark_table(lines, attribute.bytes.as_slice());
     }
 }
 
-/// Returns the last start that isn't after a byte of code that has these attributes.
-fn last_start(pool: &[Constant], byte: u32, attributes: &[KeptAttribute]) -> Option<LineStart>
-    ensures { result ≡ fold (later_start byte) None (flat_map (starts_in pool.now) attributes.now) }
+/// Marks the bytes of the starts of attributes.
+fn mark_attributes(lines: &mut [Option<u16>], pool: &[Constant], attributes: &[KeptAttribute])
+    ensures { lines.new ≡ fold with_start lines.old (flat_map (starts_in pool.now) attributes.now) }
+{
+    for attribute in attributes {
+        mark_attribute(lines, pool, attribute);
+    }
+}
+
+/// Gives each byte that isn't marked the line of the byte before it.
+fn fill(lines: &mut [Option<u16>])
+    ensures { lines.new ≡ filled None lines.old }
 {
     let mut last = None;
-    for attribute in attributes {
-        last = later_in(pool, byte, last, attribute);
+    for line in lines.iter_mut() {
+        match line {
+            Some(_) => last = *line,
+            None => *line = last,
+        }
     }
-    last
 }
 
-/// Returns the line of a byte of code that has these attributes.
-pub(crate) fn line_of_byte(
-    pool: &[Constant],
-    byte: u32,
-    attributes: &[KeptAttribute],
-) -> Option<u16>
-    ensures { result ≡ line_of_byte byte (flat_map (starts_in pool.now) attributes.now) }
+/// Marks the bytes of the starts of attributes, and gives each byte that isn't marked the line of the byte before it.
+fn mark_and_fill(lines: &mut [Option<u16>], pool: &[Constant], attributes: &[KeptAttribute])
+    ensures { lines.new ≡ filled None
+        (fold with_start lines.old (flat_map (starts_in pool.now) attributes.now)) }
 {
-    match last_start(pool, byte, attributes) {
-        Some(start) => Some(start.line),
-        None => None,
-    }
+    mark_attributes(lines, pool, attributes);
+    fill(lines);
+}
+
+/// Returns as many unmarked bytes.
+fn unmarked(alloc: Global, count: usize) -> Result<Vec<Option<u16>>, AllocError>
+    ensures { IfOk result (λ lines. lines.items ≡ replicate count None) }
+{
+    let mut lines = Vec::new(alloc);
+    lines.resize(count, None)?;
+    Ok(lines)
+}
+
+/// Returns the lines of the first `count` bytes of code that has these attributes.
+pub(crate) fn lines_of_bytes(
+    alloc: Global,
+    count: usize,
+    pool: &[Constant],
+    attributes: &[KeptAttribute],
+) -> Result<Vec<Option<u16>>, AllocError>
+    ensures { IfOk result (λ lines.
+        lines.items ≡ lines_of_bytes count (flat_map (starts_in pool.now) attributes.now)) }
+{
+    let mut lines = unmarked(alloc, count)?;
+    mark_and_fill(&mut lines, pool, attributes);
+    Ok(lines)
 }

@@ -1,27 +1,25 @@
 //! Subtypes of the classes of a program by their numbers (JVMS 4.10.1.2, 6.5 checkcast).
 
-ghost use Rattle.std.specs.Prelude.{◌≡◌, IfSome, Some, slice_get, true};
+ghost use Rattle.std.specs.Prelude.{◌≡◌, ℕ, IfSome, List, Some, slice_get, true};
 ghost use Rattle.jvms_program.specs.declared.program.Class.{Class as Seen};
 ghost use Rattle.jvms_program.specs.declared.program.Instruction.TheVariants as instruction;
 ghost use Rattle.jvms_program.specs.Program.{class_number};
-ghost use Rattle.jvms_program.specs.Resolution.{class_exists, fits};
-ghost use Rattle.classes.specs.Ancestors.{IsAncestorSet};
+ghost use Rattle.jvms_program.specs.Resolution.{ancestry, class_exists, fits, names_class};
 ghost use Rattle.program.specs.Tables.{instruction_at, name_at};
 
 use crate::list::Program;
 use descriptor::{is_array_name, same_text};
 use jvms_file::insn::ClassUse;
 use jvms_program::number::{ClassNumber, MethodNumber};
-use std::collections::BTreeSet;
 
 impl Program {
-    /// Returns the set of the numbers of the classes in the ancestry of the class of a number.
-    fn ancestors(&self, class: ClassNumber) -> Option<&BTreeSet<usize>>
-        ensures { (c : Seen) → slice_get self.now class ≡ Some c
-            → class_number self.now c.name ≡ Some class
-            → IfSome result (λ set. IsAncestorSet self.now c set.now) }
+    /// Returns whether a class is in the ancestry of another, if its set of ancestors is known.
+    fn is_in_ancestry(&self, class: ClassNumber, above: ClassNumber) -> Option<bool>
+        ensures { (c : Seen) (name : List ℕ) → slice_get self.now class ≡ Some c
+            → class_number self.now c.name ≡ Some class → class_number self.now name ≡ Some above
+            → IfSome result (λ is. is ≡ names_class name (ancestry self.now c.name)) }
     {
-        self.tables.ancestors.as_slice().get(class)?.as_ref()
+        self.tables.ancestors.has(class, above)
     }
 
     /// Decides whether the class of the first number is a subtype of the class of the second, if the two may differ.
@@ -30,8 +28,8 @@ impl Program {
         ensures { result ≡ fits self.now (name_at self.now class) (name_at self.now above) }
     {
         if self.is_plain(class) && self.is_plain(above) {
-            if let Some(ancestors) = self.ancestors(class) {
-                return ancestors.contains(&above);
+            if let Some(is_above) = self.is_in_ancestry(class, above) {
+                return is_above;
             }
             if self.is_below(class, above) {
                 return true;

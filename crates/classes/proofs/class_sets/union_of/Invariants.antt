@@ -1,7 +1,10 @@
-use Rattle.std.proofs.Common.{take}
-use Rattle.classes.specs.Ancestors.{IsUnionOf}
+-- The set has what the sets so far have.
+use Rattle.std.proofs.Common.{◌≡◌, take}
+use Rattle.classes.proofs.SetLaws.{AreUnited}
 use Rattle.classes.proofs.class_sets.union_of.Given as goal
 
--- The set has the class, and what the sets so far have.
 abbrev pub invariant-loop-other : goal.invariant-loop-other
-invariant-loop-other l = IsUnionOf l.sets l.class (take l.other-index l.supers) l.set
+invariant-loop-other l = record {
+  levels : l.arrays.levels ≡ l.fn.arrays.levels;
+  united : AreUnited l.fn.arrays.nodes.items l.arrays.nodes.items l.fn.arrays.levels l.roots (take l.other-index l.supers) l.union;
+}

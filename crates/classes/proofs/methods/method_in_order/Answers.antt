@@ -1,7 +1,11 @@
 use Rattle.std.proofs.Common.{refl}
 use Rattle.classes.specs.MethodNames.{reference}
-use Rattle.classes.proofs.MethodLaws.{in_interface_order, in_class_order}
+use Rattle.classes.proofs.MethodLaws.{in_class_order, in_interface_order, missing_method}
 use Rattle.classes.proofs.methods.method_in_order.Goals as goal
+
+pub returns-then-not-may_declare_method : goal.returns-then-not-may_declare_method
+returns-then-not-may_declare_method c =
+    missing_method c.args.program.now (reference c.args.r) (c.may_declare_method.ensures c.if-not-may_declare_method.true)
 
 pub returns-then-r : goal.returns-then-r
 returns-then-r c =

@@ -1,10 +1,26 @@
-use Rattle.needs.specs.Lines.{instruction_line, place_text}
-use Rattle.needs.proofs.LineLaws.{one_more}
+use Rattle.std.proofs.Common.{arith, sym, ◌∙◌}
+use Rattle.std.specs.String.{string_bytes}
+use Rattle.needs.specs.Lines.{place_text}
+use Rattle.needs.proofs.LineLaws.{from_first, no_lines}
 use Rattle.needs.proofs.lines.put_instructions.Goals as goal
 
-pub loop-place-preserved : goal.loop-place-preserved
-loop-place-preserved c =
-    one_more
-    (instruction_line c.args.program.now (place_text c.args.sources.now.first c.args.sources.now.files.now c.args.method.now.number c.args.method.now.key))
-    c.args.instructions.now c.loop-place.place c.index-instructions-place.result _ _ _
-    c.loop-place-test.true c.index-instructions-place.is c.in_ok-put_instruction.ensures c.loop-place.invariant
+pub returns-in_default : goal.returns-in_default
+returns-in_default c =
+    no_lines c.args.program.now (place_text c.args.source.now c.args.method.now.number c.args.method.now.key) c.args.instructions.now
+    (string_bytes c.args.out.now) (sym c.in_default.is ∙ c.first_place.ensures)
+
+pub put_instructions_from-requires : goal.put_instructions_from-requires
+put_instructions_from-requires c =
+    let first =
+    from_first c.args.program.now (place_text c.args.source.now c.args.method.now.number c.args.method.now.key) c.args.instructions.now
+    (string_bytes c.args.out.now) c.in-Some.first (sym c.in-Some.is ∙ c.first_place.ensures)
+    in
+    omega (arith, first.0)
+
+pub returns : goal.returns
+returns c =
+    let first =
+    from_first c.args.program.now (place_text c.args.source.now c.args.method.now.number c.args.method.now.key) c.args.instructions.now
+    (string_bytes c.args.out.now) c.in-Some.first (sym c.in-Some.is ∙ c.first_place.ensures)
+    in
+    rw first.1 (rw c.in_ok-source.ensures at c.put_instructions_from.ensures)

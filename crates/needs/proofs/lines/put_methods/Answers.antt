@@ -9,7 +9,7 @@ loop-place-preserved c =
     let m = c.index-methods-place.result in
     let same = c.as_slice-methods.ensures in
     one_more
-    (method_lines c.args.program.now c.args.sources.now.first c.args.sources.now.files.now (c.args.number, c.args.class.now))
+    (method_lines c.args.program.now c.args.source.now c.args.class.now)
     c.args.class.now.methods k m _ _ _
     (subst (λ xs. k < length xs) same c.loop-place-test.true)
     (subst (λ xs. m ≡ get_or xs k m) same c.index-methods-place.is)

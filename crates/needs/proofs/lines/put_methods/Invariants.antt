@@ -8,6 +8,6 @@ use Rattle.needs.proofs.lines.put_methods.Given as goal
 abbrev pub invariant-loop-place : goal.invariant-loop-place
 invariant-loop-place l =
     string_bytes l.out
-    ++ flat_map (method_lines l.program l.sources.first l.sources.files.now (l.number, l.class)) (enumerate_from l.place (drop l.place l.class.methods))
+    ++ flat_map (method_lines l.program l.source l.class) (enumerate_from l.place (drop l.place l.class.methods))
     ≡ string_bytes l.initial.out
-    ++ flat_map (method_lines l.program l.sources.first l.sources.files.now (l.number, l.class)) (enumerate_from 0 l.class.methods)
+    ++ flat_map (method_lines l.program l.source l.class) (enumerate_from 0 l.class.methods)

@@ -13,5 +13,5 @@ returns c =
     let n = c.args.number in
     let class = c.args.class.now in
     subst (λ (p : List Class). slice_get p n ≡ Some class → class_number p class.name ≡ Some n → chain p class.name ≡ class ∷ chain_up p class.superclass) c.self.view_is
-    (λ at number. chain_is inside.list inside.hierarchy.supers.items inside.hierarchy.ranks.items inside.hierarchy.order.items c.self.invariant n class at number)
+    (λ at number. chain_is inside.list inside.hierarchy.supers.items inside.hierarchy.ranks.items inside.hierarchy.order.items c.self.invariant.0 n class at number)
     c.requires.there c.requires.named
