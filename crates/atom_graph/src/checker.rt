@@ -164,7 +164,7 @@ impl Checker {
         ensures { AreAtomic (state_of_fed self.now).events
             → AreReached (state_of_fed self.now) result }
     {
-        self.watch.reduced.graph.live().len() as u64
+        self.watch.reduced.graph.live_count() as u64
     }
 
     /// Returns the verdict: an order of the transactions if the trace is atomic, else its first cycle.

@@ -78,9 +78,7 @@ impl Reduced {
     pub(crate) fn order(&self, alloc: Global) -> Result<Vec<u64>, AllocError>
         ensures { IfOk result (λ v. v.items ≡ self.now.graph.dropped ++ self.now.graph.live) }
     {
-        let mut order = Vec::from_slice(alloc, self.graph.dropped())?;
-        order.extend_from_slice(self.graph.live())?;
-        Ok(order)
+        self.graph.order(alloc)
     }
 }
 

@@ -15,7 +15,8 @@ use Rattle.atom_order.proofs.Members.{in_left, in_right, in_cases, in_filter, fi
 use Rattle.atom_order.proofs.Pairs.{Pairs, Differ, pairs_across}
 use Rattle.atom_order.proofs.Kept.{chosen, passed_by, begins, adds, drops, leads_on, leads_by_link, leads_more, links_lead_forward}
 use Rattle.atom_order.proofs.Reached.{live_apart}
-use Rattle.atom_order.proofs.Regions.{filter_append, filter_all, filter_none, all_closed, all_apart, all_sides, all_left}
+use Rattle.atom_order.proofs.Lists.{filter_append, filter_all, filter_none}
+use Rattle.atom_order.proofs.Forward.{all_closed, all_apart, all_sides, all_left}
 use Rattle.atom_order.proofs.Same.{kept_alike, usable_of_kept}
 
 -- ---- The links from live transactions other than one
@@ -176,9 +177,6 @@ module _ (events : List Event) (n : ℕ) (s : Shape) (f : Event) (links : List L
       onto true old = refl
       onto false old = refl
 
-  event_forward : LeadForward with_event.into (s.live ++ t ∷ [])
-  event_forward = links_lead_forward now (n + 1) with_event kept_event
-
   -- ---- It is open
 
   begun_kept_open : IsKept (events ++ f ∷ []) (n + 1) (order_of (shape_after_begin true links s))
@@ -203,7 +201,7 @@ module _ (events : List Event) (n : ℕ) (s : Shape) (f : Event) (links : List L
 
   held_left : (l : Link) → IsIn l links → IsLeft f.transaction (λ x. is_among x (s.live ++ f.transaction ∷ [])) with_event
   held_left l h =
-      all_left with_event.is_open with_event.into s.live t [] event_forward new_apart kept_event.live kept_event.opens s.dropped l
+      all_left with_event.is_open with_event.into all t kept_event.live kept_event.opens s.dropped l
       (subst (IsIn l) (sym (chosen t t links (into_in s t) refl)) h) (in_left l.from s.live (t ∷ []) (from_live l h))
 
   abbrev begun_held : Order

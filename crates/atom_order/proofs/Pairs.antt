@@ -1,10 +1,11 @@
 -- A relation between each element of a list and each later one.
-use Rattle.std.proofs.Common.{◌≡◌, ℕ, Bool, true, false, not, cond, ◌==◌, inl, inr, List, [], ◌∷◌, ◌++◌, refl, sym, ap, subst, ◌∙◌}
+use Rattle.std.proofs.Common.{◌≡◌, ℕ, zero, suc, ◌<◌, Bool, true, false, not, cond, ◌==◌, inl, inr, List, [], ◌∷◌, ◌++◌, length, get_or, refl, sym, ap, subst, ◌∙◌, arith}
 use Rattle.std.proofs.lemmas.Bool.{ne_eqb, not-true, both_ways}
 use Rattle.std.specs.List.{AllByRecursion, IsDistinct, filter}
 use Rattle.velodrome.specs.Cycles.{IsIn, IsEdge}
 use Rattle.velodrome.specs.Orders.{NoneLeadsBack}
 use Rattle.velodrome.specs.Transactions.{Event}
+use Rattle.atom_order.proofs.Lists.{at_in}
 use Rattle.atom_order.proofs.Members.{in_left, in_right, in_cases, all_in, in_all, filter_in}
 
 abbrev pub Pairs : {X : Type 0} (R : X → X → Type 0) → List X → Type 0
@@ -102,3 +103,10 @@ pairs_order events (x ∷ xs) d = (d.0, pairs_order events xs d.1)
 
 pub differ_sides : (P : ℕ → Bool) (x y : ℕ) → P x ≡ false → P y ≡ true → Differ x y
 differ_sides P x y p q = ne_eqb x y (λ e. both_ways (P y) (ap P (sym e) ∙ p) q)
+
+pub pairs_at : (R : ℕ → ℕ → Type 0) (xs : List ℕ) (i j : ℕ) → Pairs R xs → i < j → j < length xs → R (get_or xs i 0) (get_or xs j 0)
+pairs_at R [] i j p less far = absurd (omega arith)
+pairs_at R (x ∷ xs) zero zero p less far = absurd (omega arith)
+pairs_at R (x ∷ xs) zero (suc j) p less far = all_in (R x) xs (get_or xs j 0) p.0 (at_in 0 xs j (omega arith))
+pairs_at R (x ∷ xs) (suc i) zero p less far = absurd (omega arith)
+pairs_at R (x ∷ xs) (suc i) (suc j) p less far = pairs_at R xs i j p.1 (omega arith) (omega arith)

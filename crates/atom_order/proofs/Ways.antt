@@ -1,51 +1,22 @@
 -- Distances along links, found in one pass over an order in which links lead forward.
-use Rattle.std.proofs.Common.{◌≡◌, ◌≢◌, ℕ, ◌+◌, ◌<◌, ◌≤◌, Bool, true, false, cond, ◌||◌, ◌==◌, ◌⊎◌, inl, inr, List, [], ◌∷◌, ◌++◌, Option, Some, None, Result, Ok, Err, IfOk, MatchOption, length, take, drop, get_or, refl, sym, ap, subst, ◌∙◌, arith}
-use Rattle.std.proofs.lemmas.Bool.{cases_eq, eq-eqb, ne_eqb, eqb-true, or_cases}
+use Rattle.std.proofs.Common.{◌≡◌, ◌≢◌, ℕ, ◌+◌, ◌<◌, ◌≤◌, cond, ◌==◌, ◌⊎◌, inl, inr, List, [], ◌∷◌, ◌++◌, Some, length, take, drop, get_or, sym, ap, subst, ◌∙◌, arith}
+use Rattle.std.proofs.lemmas.Bool.{cases_eq, eq-eqb, ne_eqb}
 use Rattle.std.proofs.lemmas.Bool.Decides.{nat_tests}
 use Rattle.std.proofs.lemmas.Option.{none-some, same_Some}
 use Rattle.std.proofs.lemmas.List.{take-append-drop, take_more, take_all}
 use Rattle.std.specs.Ordering.{nat_cmp}
 use Rattle.std.specs.BTreeMap.{is_at}
-use Rattle.std.specs.List.{list_any}
 use Rattle.velodrome.specs.Cycles.{IsIn}
 use Rattle.atom_order.specs.declared.distances.Near.{Near}
 use Rattle.atom_order.specs.declared.link.Link.{Link}
 use Rattle.atom_order.specs.Distances.{IsDistance, distance_in, AreDistances, IsNearest, AreFar, IsNext}
-use Rattle.atom_order.specs.Reaching.{leads_from, marked_transactions, LeadForward}
-use Rattle.atom_order.specs.Marking.{has_key, HasMarks}
+use Rattle.atom_order.specs.Reaching.{LeadForward}
 use Rattle.atom_order.specs.Trails.{IsTrail}
-use Rattle.atom_order.proofs.Members.{in_right, in_cases}
-use Rattle.atom_order.proofs.Loops.{led_same}
-use Rattle.atom_order.proofs.Marks.{link_from}
-use Rattle.atom_order.proofs.Moved.{cut_at}
-use Rattle.atom_order.proofs.Places.{at_in}
-use Rattle.atom_order.proofs.Regions.{forward_back, forward_front}
+use Rattle.atom_order.proofs.Forward.{forward_back}
+use Rattle.atom_order.proofs.Lists.{at_in, cut_at}
+use Rattle.atom_order.proofs.Members.{in_cases}
 
 module _ (live : List ℕ) (into : ℕ → List Link) (t : ℕ) where
-  abbrev pub HasTrail : ℕ → Type 0
-  HasTrail x = (trail : List Link) × IsTrail live into t x trail
-
-  -- Links lead back from each marked one.
-  pub marked_trail : (marks ys : List ℕ) → ((x : ℕ) → IsIn x marks → HasTrail x) → ((x : ℕ) → IsIn x ys → IsIn x live)
-      → (x : ℕ) → IsIn x (marked_transactions (λ y. y == t) into marks ys) → HasTrail x
-  marked_trail marks [] each lives x h = each x h
-  marked_trail marks (y ∷ ys) each lives x h =
-      marked_trail (cond ((y == t) || leads_from marks (into y)) (y ∷ marks) marks) ys (by ((y == t) || leads_from marks (into y)) refl) (λ z g. lives z (inr g)) x h
-    where
-      entered : ((y == t) || leads_from marks (into y)) ≡ true → HasTrail y
-      entered is = elim (or_cases (y == t) (leads_from marks (into y)) is) [
-        | inl same ↦ ([], eqb-true y t same)
-        | inr led ↦
-            let link = link_from marks (into y) led in
-            let more = each link.0.from link.2 in
-            (link.0 ∷ more.0, (lives y (inl refl), link.1, more.1))
-      ]
-
-      by : (b : Bool) → ((y == t) || leads_from marks (into y)) ≡ b → (z : ℕ) → IsIn z (cond b (y ∷ marks) marks) → HasTrail z
-      by true is z (inl e) = subst HasTrail (sym e) (entered is)
-      by true is z (inr g) = each z g
-      by false is z g = each z g
-
   -- The distances that are stored after a part of the order.
   pub record AreSoFar (seen : List ℕ) (count : ℕ) (entries : List (ℕ × ℕ)) : Type 0 where
     pub kept : (x n : ℕ) → distance_in entries x ≡ Some n → IsDistance live into t x n × (n < count)
@@ -59,47 +30,30 @@ module _ (live : List ℕ) (into : ℕ → List Link) (t : ℕ) where
 
 -- ---- One pass
 
-module _ (live : List ℕ) (into : ℕ → List Link) (place t : ℕ) (less : place < length live) (is : get_or live place 0 ≡ t) (leads : LeadForward into live) where
-  abbrev region : List ℕ
-  region = drop place live
-
-  whole : take place live ++ region ≡ live
-  whole = take-append-drop place live
-
-  leads_region : LeadForward into region
-  leads_region = forward_back into (take place live) region (subst (LeadForward into) (sym whole) leads)
-
-  pub region_live : (x : ℕ) → IsIn x region → IsIn x live
-  region_live x h = subst (IsIn x) whole (in_right x (take place live) region h)
-
-  -- Links lead back only from transactions at the place or later.
-  trail_region : (x : ℕ) (trail : List Link) → IsTrail live into t x trail → IsIn x region
-  trail_region x [] same = subst (IsIn x) (sym (cut_at place t live less is)) (inl same)
-  trail_region x (l ∷ trail) way =
-      let back = trail_region l.from trail way.2 in
-      elim (in_cases x (take place live) region (subst (IsIn x) (sym whole) way.0)) [
-        | inl front ↦ absurd (forward_front into (take place live) region x l (subst (LeadForward into) (sym whole) leads) front way.1 back)
-        | inr h ↦ h
-      ]
+module _ (live : List ℕ) (into : ℕ → List Link) (t : ℕ) (there : IsIn t live) (leads : LeadForward into live) where
+  -- Links lead back only from live transactions.
+  trail_live : (x : ℕ) (trail : List Link) → IsTrail live into t x trail → IsIn x live
+  trail_live x [] same = subst (λ v. IsIn v live) (sym same) there
+  trail_live x (l ∷ trail) way = way.0
 
   -- A link's transaction was visited before.
-  earlier : (i y : ℕ) (l : Link) → i < length region → get_or region i 0 ≡ y → IsIn l (into y) → IsIn l.from region → IsIn l.from (take i region)
+  earlier : (i y : ℕ) (l : Link) → i < length live → get_or live i 0 ≡ y → IsIn l (into y) → IsIn l.from live → IsIn l.from (take i live)
   earlier i y l low here g h =
-      elim (in_cases l.from (take i region) (drop i region) (subst (IsIn l.from) (sym (take-append-drop i region)) h)) [
+      elim (in_cases l.from (take i live) (drop i live) (subst (IsIn l.from) (sym (take-append-drop i live)) h)) [
         | inl front ↦ front
-        | inr back ↦ absurd ((subst (LeadForward into) (cut_at i y region low here)
-            (forward_back into (take i region) (drop i region) (subst (LeadForward into) (sym (take-append-drop i region)) leads_region))).0 l g
-            (subst (IsIn l.from) (cut_at i y region low here) back))
+        | inr back ↦ absurd ((subst (LeadForward into) (cut_at 0 i y live low here)
+            (forward_back into (take i live) (drop i live) (subst (LeadForward into) (sym (take-append-drop i live)) leads))).0 l g
+            (subst (IsIn l.from) (cut_at 0 i y live low here) back))
       ]
 
-  module _ (i y : ℕ) (entries : List (ℕ × ℕ)) (low : i < length region) (here : get_or region i 0 ≡ y) (so : AreSoFar live into t (take i region) i entries) where
+  module _ (i y : ℕ) (entries : List (ℕ × ℕ)) (low : i < length live) (here : get_or live i 0 ≡ y) (so : AreSoFar live into t (take i live) i entries) where
     y_live : IsIn y live
-    y_live = region_live y (subst (λ v. IsIn v region) here (at_in 0 region i low))
+    y_live = subst (λ v. IsIn v live) here (at_in 0 live i low)
 
     -- A distance is stored where the first link of a trail leads from, and it is at most the length of the rest.
     back_from : (l : Link) (others : List Link) → IsIn l (into y) → IsTrail live into t l.from others → (m : ℕ) × (distance_in entries l.from ≡ Some m) × (m ≤ length others)
     back_from l others g way =
-        let some = so.all l.from others (earlier i y l low here g (trail_region l.from others way)) way in
+        let some = so.all l.from others (earlier i y l low here g (trail_live l.from others way)) way in
         (some.0, some.1, (so.kept l.from some.0 some.1).0.least others way)
 
     next_is : (n : ℕ) → IsNext t y (into y) entries n → IsDistance live into t y n × (n < i + 1)
@@ -139,15 +93,15 @@ module _ (live : List ℕ) (into : ℕ → List Link) (place t : ℕ) (less : pl
         let some = back_from k others way.1 way.2 in
         none-some some.0 (sym (far k way.1) ∙ some.1)
 
-    seen_more : (x : ℕ) → IsIn x (take (i + 1) region) → IsIn x (take i region) ⊎ (x ≡ y)
-    seen_more x h = elim (in_cases x (take i region) (y ∷ []) (subst (IsIn x) (take_more region i 0 low ∙ ap (λ z. take i region ++ z ∷ []) here) h)) [
+    seen_more : (x : ℕ) → IsIn x (take (i + 1) live) → IsIn x (take i live) ⊎ (x ≡ y)
+    seen_more x h = elim (in_cases x (take i live) (y ∷ []) (subst (IsIn x) (take_more live i 0 low ∙ ap (λ z. take i live ++ z ∷ []) here) h)) [
       | inl front ↦ inl front
       | inr last ↦ elim last [ inl same ↦ inr same | inr none ↦ absurd none ]
     ]
 
     -- One more distance is stored.
     pub one_more : (more : List (ℕ × ℕ)) (n : ℕ) → IsNext t y (into y) entries n → ((q : ℕ) → distance_in more q ≡ cond (is_at (nat_cmp y) q) (Some n) (distance_in entries q))
-        → AreSoFar live into t (take (i + 1) region) (i + 1) more
+        → AreSoFar live into t (take (i + 1) live) (i + 1) more
     one_more more n next updates = record {
       kept = λ x m at. elim (cases_eq x y) [
         | inl same ↦ subst (λ v. IsDistance live into t v m × (m < i + 1)) (sym same) (subst (λ v. IsDistance live into t y v × (v < i + 1)) (same_Some n m (sym (at_here x same) ∙ at)) (next_is n next))
@@ -172,7 +126,7 @@ module _ (live : List ℕ) (into : ℕ → List Link) (place t : ℕ) (less : pl
         at_other x other = updates x ∙ ap (λ b. cond b (Some n) (distance_in entries x)) (same_key x ∙ ne_eqb x y other)
 
     -- No links lead back.
-    pub none_more : y ≢ t → AreFar (into y) entries → AreSoFar live into t (take (i + 1) region) (i + 1) entries
+    pub none_more : y ≢ t → AreFar (into y) entries → AreSoFar live into t (take (i + 1) live) (i + 1) entries
     none_more other far = record {
       kept = λ x m at. let old = so.kept x m at in let bound = old.1 in (old.0, omega arith);
       all = λ x trail h way. elim (seen_more x h) [
@@ -181,27 +135,11 @@ module _ (live : List ℕ) (into : ℕ → List Link) (place t : ℕ) (less : pl
       ];
     }
 
-  pub all_so_far : (i : ℕ) (entries : List (ℕ × ℕ)) → length region ≤ i → AreSoFar live into t (take i region) i entries → AreDistances live into t entries
+  pub all_so_far : (i : ℕ) (entries : List (ℕ × ℕ)) → length live ≤ i → AreSoFar live into t (take i live) i entries → AreDistances live into t entries
   all_so_far i entries far so = record {
     kept = λ x n at. (so.kept x n at).0;
-    all = λ x trail way. so.all x trail (subst (IsIn x) (sym (take_all i region far)) (trail_region x trail way)) way;
+    all = λ x trail way. so.all x trail (subst (IsIn x) (sym (take_all i live far)) (trail_live x trail way)) way;
   }
-
-  -- A link from a marked transaction closes a cycle.
-  pub marked_closes : (keys : List ℕ) (links : List Link) → HasMarks keys (marked_transactions (λ y. y == t) into [] region) → list_any (λ (l : Link). has_key keys l.from) links ≡ true
-      → ((l : Link) (trail : List Link) → IsIn l links → IsTrail live into t l.from trail → ⊥) → ⊥
-  marked_closes keys links has some none =
-      let marks = marked_transactions (λ y. y == t) into [] region in
-      let link = link_from marks links (sym (led_same keys marks links has) ∙ some) in
-      let way = marked_trail live into t [] region (λ x h. absurd h) region_live link.0.from link.2 in
-      none link.0 way.0 link.1 way.1
-
--- The result is a cycle, because one exists.
-pub closed_or : {X E : Type 0} (r : Result (Option X) E) (ClosesNone Linked Same : Type 0) (Closes : X → Type 0) → IfOk r (λ o. MatchOption o ClosesNone Closes) → (ClosesNone → ⊥) → Same
-    → IfOk r (λ o. MatchOption o Linked (λ c. Same × Closes c))
-closed_or (Ok None) ClosesNone Linked Same Closes h some same = absurd (some h)
-closed_or (Ok (Some c)) ClosesNone Linked Same Closes h some same = (same, h)
-closed_or (Err e) ClosesNone Linked Same Closes h some same = tt
 
 -- ---- The way back
 

@@ -1,6 +1,10 @@
 pub mod Distances
+pub mod Exits
 pub mod Keeping
+pub mod LinkedOrder
 pub mod Marking
 pub mod Reaching
 pub mod Shapes
+pub mod Slots
+pub mod Sweeps
 pub mod Trails

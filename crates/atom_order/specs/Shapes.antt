@@ -1,12 +1,11 @@
 -- Defines the graph as data: lists indexed by transaction, from 0. No transaction has number 0 (own).
-use Rattle.std.specs.Prelude.{◌≡◌, ℕ, ◌<◌, ◌≤◌, ◌==◌, Bool, true, false, not, cond, ◌||◌, ◌&&◌, List, [], ◌∷◌, ◌++◌, length, get_or, take, drop}
+use Rattle.std.specs.Prelude.{◌≡◌, ℕ, ◌≤◌, ◌==◌, Bool, true, false, not, cond, ◌||◌, ◌&&◌, List, [], ◌∷◌, ◌++◌, length, get_or}
 use Rattle.std.specs.List.{IsDistinct, filter}
 use Rattle.velodrome.specs.Cycles.{IsIn}
 use Rattle.atom_order.specs.declared.link.Link.{Link}
 use Rattle.atom_order.specs.declared.link.Closing.{Closing}
 use Rattle.atom_order.specs.Keeping.{Order, sides, IsKeptLive, IsReach, IsLeft}
-use Rattle.atom_order.specs.Reaching.{is_among, marked_transactions, to_be_dropped, LeadForward}
-use Rattle.atom_order.specs.Marking.{has_key, HasMarks}
+use Rattle.atom_order.specs.Reaching.{is_among, LeadForward}
 use Rattle.atom_order.specs.Trails.{IsTrail}
 
 pub record Shape : Type 0 where
@@ -26,21 +25,6 @@ order_of s = record { dropped = s.dropped; live = s.live; is_open = open_in s; i
 
 abbrev pub no_transactions : Shape
 no_transactions = record { dropped = []; live = []; is_open = false ∷ []; into = [] ∷ [] }
-
--- Each live transaction has a slot with its place.
-pub record ArePlaces (live places : List ℕ) (opens : List Bool) (into : List (List Link)) : Type 0 where
-  pub places_fit : length places ≡ length into
-  pub opens_fit : length opens ≡ length into
-  pub slots : (i : ℕ) → i < length live → get_or live i 0 < length into
-  pub at : (i : ℕ) → i < length live → get_or places (get_or live i 0) 0 ≡ i
-
--- From a place on, the live transactions were put into another order or removed.
-pub record IsMoved (place : ℕ) (live now : List ℕ) : Type 0 where
-  pub front : take place now ≡ take place live
-  pub fits : place ≤ length live
-  pub long : place ≤ length now
-  pub members : (x : ℕ) → IsIn x now → IsIn x live
-  pub distinct : IsDistinct (λ x y. x == y) now
 
 -- Returns the links that lead from live transactions other than t.
 abbrev pub live_links : ℕ → List ℕ → List Link → List Link
@@ -76,13 +60,6 @@ pub record IsClosing (t : ℕ) (old new : Shape) : Type 0 where
   pub into : (y : ℕ) → keeps y ≡ true → into_in new y ≡ into_in old y
   pub slots : length new.into ≡ length old.into
 
--- The live transactions from a place on: those that don't stay live after t is closed, and the others.
-pub record AreParts (t place : ℕ) (s : Shape) (gone left : List ℕ) : Type 0 where
-  pub keys : List ℕ
-  pub has : HasMarks keys (to_be_dropped (λ y. cond (y == t) false (open_in s y)) (λ y. is_among y s.live) (into_in s) [] (drop place s.live))
-  pub gone_are : gone ≡ filter (λ x. has_key keys x) (drop place s.live)
-  pub left_are : left ≡ filter (λ x. not (has_key keys x)) (drop place s.live)
-
 -- Links into transaction t were added.
 pub record IsLinking (t : ℕ) (links : List Link) (old new : Shape) : Type 0 where
   pub reaches : ℕ → Bool
@@ -104,9 +81,6 @@ pub record ClosesCycle (t : ℕ) (links : List Link) (s : Shape) (c : Closing) :
 abbrev pub ClosesNone : ℕ → List Link → Shape → Type 0
 ClosesNone t links s = (l : Link) (trail : List Link) → IsIn l links → IsTrail s.live (into_in s) t l.from trail → ⊥
 
--- The live transactions from a place on, with those that t reaches moved after the others.
-pub record ArePushedBack (t place : ℕ) (links : List Link) (s : Shape) (numbers : List ℕ) : Type 0 where
-  pub keys : List ℕ
-  pub has : HasMarks keys (marked_transactions (λ y. y == t) (into_in s) [] (drop place s.live))
-  pub apart : (l : Link) → IsIn l links → has_key keys l.from ≡ false
-  pub are : numbers ≡ sides (λ x. has_key keys x) (drop place s.live)
+-- A trail leads back to the transaction from where a link begins.
+abbrev pub ClosesSome : ℕ → List Link → Shape → Type 0
+ClosesSome t links s = (l : Link) × (trail : List Link) × IsIn l links × IsTrail s.live (into_in s) t l.from trail

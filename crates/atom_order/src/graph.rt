@@ -1,16 +1,16 @@
 //! The graph of live transactions.
 
-ghost use Rattle.std.specs.Prelude.{◌||◌, ◌&&◌, ◌≡◌, ◌<◌, ◌^◌, [], false, true, length, drop, get_or, IfOk, OnOk, OnErr, MatchOption};
+ghost use Rattle.std.specs.Prelude.{◌&&◌, ◌≡◌, ◌<◌, ◌^◌, ◌++◌, false, true, length, IfOk, OnOk, OnErr};
 ghost use Rattle.atom_order.specs.declared.link.Link.{Link};
 ghost use Rattle.atom_order.specs.Reaching.{is_among};
-ghost use Rattle.atom_order.specs.Shapes.{no_transactions, live_links, shape_after_begin, open_in, into_in};
+ghost use Rattle.atom_order.specs.Shapes.{no_transactions, live_links, shape_after_begin, into_in, open_in};
 
 mod closing;
 mod linking;
 mod shortest;
 
 use crate::link::Link;
-use crate::links::Links;
+use crate::linked_order::LinkedOrder;
 use std::alloc::{AllocError, Global};
 use std::marker::Model;
 
@@ -18,26 +18,21 @@ use std::marker::Model;
 #[derive(Drop)]
 pub struct Graph {
     dropped: Vec<u64>,
-    live: Vec<u64>,
+    order: LinkedOrder,
     is_open: Vec<bool>,
-    into: Vec<Links>,
-    places: Vec<usize>,
     alloc: Global,
 }
 
 impl Model for Graph {
-    ghost use Rattle.atom_order.specs.Shapes.{Shape, ArePlaces};
+    ghost use Rattle.std.specs.Prelude.{◌≡◌, length};
+    ghost use Rattle.atom_order.specs.LinkedOrder.{shape_of};
+    ghost use Rattle.atom_order.specs.Shapes.{Shape};
 
     ghost Value = { Shape };
 
-    ghost view = { λ g. record {
-      dropped = g.dropped.items;
-      live = g.live.items;
-      is_open = g.is_open.items;
-      into = g.into.items;
-    } };
+    ghost view = { λ g. shape_of g.dropped.items g.order g.is_open.items };
 
-    ghost invariant = { λ g. ArePlaces g.live.items g.places.items g.is_open.items g.into.items };
+    ghost invariant = { λ g. length g.is_open.items ≡ length g.order.into };
 }
 
 impl Graph {
@@ -45,52 +40,26 @@ impl Graph {
     pub fn new(alloc: Global) -> Result<Self, AllocError>
         ensures { IfOk result (λ g. g ≡ no_transactions) }
     {
-        let mut into = Vec::new(alloc);
-        into.push(Links::new(alloc))?;
         Ok(Graph {
             dropped: Vec::new(alloc),
-            live: Vec::new(alloc),
+            order: LinkedOrder::new(alloc)?,
             is_open: vec![in alloc; false]?,
-            into,
-            places: vec![in alloc; 0]?,
             alloc,
         })
-    }
-
-    /// Returns the place of a transaction among the live ones, if it is live.
-    fn place_of(&self, transaction: u64) -> Option<usize>
-        ensures { MatchOption result (is_among transaction self.now.live ≡ false)
-            (λ i. (i < length self.now.live) × (get_or self.now.live i 0 ≡ transaction)) }
-    {
-        let slot = transaction as usize;
-        if slot >= self.places.len() {
-            return None;
-        }
-        let place = self.places[slot];
-        if place >= self.live.len() {
-            return None;
-        }
-        if self.live[place] != transaction {
-            return None;
-        }
-        Some(place)
     }
 
     /// Decides whether a transaction is live: it is open, or an open one reaches it.
     pub fn is_live(&self, transaction: u64) -> bool
         ensures { result ≡ is_among transaction self.now.live }
     {
-        match self.place_of(transaction) {
-            Some(_) => true,
-            None => false,
-        }
+        self.order.is_live(transaction)
     }
 
-    /// Returns the live transactions in order.
-    pub fn live(&self) -> &[u64]
-        ensures { result.now ≡ self.now.live }
+    /// Returns the number of live transactions.
+    pub fn live_count(&self) -> usize
+        ensures { result ≡ length self.now.live }
     {
-        self.live.as_slice()
+        self.order.live_count()
     }
 
     /// Returns the dropped transactions in order. All of them come before the live ones.
@@ -100,11 +69,20 @@ impl Graph {
         self.dropped.as_slice()
     }
 
+    /// Returns all transactions in order: the dropped ones, and the live ones.
+    pub fn order(&self, alloc: Global) -> Result<Vec<u64>, AllocError>
+        ensures { IfOk result (λ v. v.items ≡ self.now.dropped ++ self.now.live) }
+    {
+        let mut order = Vec::from_slice(alloc, self.dropped.as_slice())?;
+        self.order.append_live(&mut order)?;
+        Ok(order)
+    }
+
     /// Returns the number of the next transaction.
     pub fn next(&self) -> u64
         ensures { result ≡ length self.now.into }
     {
-        self.into.len() as u64
+        self.order.next()
     }
 
     /// Proves to a caller that the lists of open marks and of links have the same length. It does nothing.
@@ -132,23 +110,17 @@ impl Graph {
         ensures ok { OnOk result (self.new ≡ shape_after_begin is_open links.items self.old) }
         ensures err { OnErr result (self.new ≡ self.old) }
     {
-        self.live.reserve(1)?;
-        self.dropped.reserve(1)?;
-        self.places.reserve(1)?;
         self.is_open.reserve(1)?;
-        self.into.reserve(1)?;
-        let transaction = self.into.len() as u64;
         if is_open || !links.is_empty() {
-            self.places.push_reserved(self.live.len());
-            self.live.push_reserved(transaction);
+            self.order.push(links)?;
             self.is_open.push_reserved(is_open);
-            self.into.push_reserved(Links::from_vec(links));
             return Ok(());
         }
-        self.places.push_reserved(0);
+        self.dropped.reserve(1)?;
+        let transaction = self.order.next();
+        self.order.skip(links)?;
         self.dropped.push_reserved(transaction);
         self.is_open.push_reserved(false);
-        self.into.push_reserved(Links::from_vec(links));
         Ok(())
     }
 
@@ -156,11 +128,7 @@ impl Graph {
     fn links_into(&self, transaction: u64) -> &[Link]
         ensures { result.now ≡ into_in self.now transaction }
     {
-        let slot = transaction as usize;
-        if slot >= self.into.len() {
-            return &[];
-        }
-        self.into[slot].as_slice()
+        self.order.links_into(transaction)
     }
 
     /// Decides whether a transaction is open.
@@ -172,13 +140,5 @@ impl Graph {
             return false;
         }
         self.is_open[slot]
-    }
-
-    /// Returns the live transactions from a place on.
-    fn live_from(&self, place: usize) -> &[u64]
-        requires { place < length self.now.live }
-        ensures { result.now ≡ drop place self.now.live }
-    {
-        &self.live[place..]
     }
 }

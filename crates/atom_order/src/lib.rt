@@ -4,8 +4,10 @@
 mod distances;
 mod graph;
 mod link;
+mod linked_order;
 mod links;
-mod moves;
+mod numbers;
+mod slots;
 
 pub use graph::Graph;
 pub use link::{Closing, Link};

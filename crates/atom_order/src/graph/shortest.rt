@@ -1,11 +1,9 @@
 //! Finds a shortest cycle that a link closes, by the distances of specs/Distances.antt. It runs only if a cycle is
 //! known, so other links cost nothing more.
 
-ghost use Rattle.std.specs.Prelude.{◌≡◌, ◌≢◌, ℕ, ◌+◌, ◌<◌, ◌^◌, Some, length, get_or, IfOk, MatchOption};
-ghost use Rattle.std.specs.List.{list_any};
-ghost use Rattle.atom_order.specs.declared.link.Link.{Link};
+ghost use Rattle.std.specs.Prelude.{◌≡◌, ◌≢◌, ℕ, ◌+◌, ◌<◌, ◌^◌, true, Some, length, IfOk, MatchOption};
 ghost use Rattle.atom_order.specs.Distances.{AreDistances, AreFar, IsNext, distance_in};
-ghost use Rattle.atom_order.specs.Marking.{has_key};
+ghost use Rattle.atom_order.specs.Reaching.{is_among};
 ghost use Rattle.atom_order.specs.Shapes.{into_in, IsUsable, ClosesCycle, ClosesNone};
 ghost use Rattle.atom_order.specs.Trails.{IsTrail};
 
@@ -13,7 +11,7 @@ use super::Graph;
 use crate::distances::{Near, nearest};
 use crate::link::{Closing, Link};
 use std::alloc::AllocError;
-use std::collections::{BTreeMap, BTreeSet};
+use std::collections::BTreeMap;
 
 impl Graph {
     /// Returns the distance of y from the start, if it has one. It is 0 for the start, else 1 more than the least
@@ -33,16 +31,17 @@ impl Graph {
         }
     }
 
-    /// Returns the distance of each transaction that the one at a place reaches. It makes one pass over the order.
-    fn distances(&self, transaction: u64, place: usize) -> Result<BTreeMap<u64, usize>, AllocError>
-        requires place { place < length self.now.live }
-        requires there { get_or self.now.live place 0 ≡ transaction }
+    /// Returns the distance of each live transaction that one reaches. It makes one pass over the order.
+    fn distances(&self, transaction: u64) -> Result<BTreeMap<u64, usize>, AllocError>
+        requires live { is_among transaction self.now.live ≡ true }
         requires usable { IsUsable self.now }
         ensures { IfOk result
             (λ m. AreDistances self.now.live (into_in self.now) transaction m.entries) }
     {
+        let mut live = Vec::new(self.alloc);
+        self.order.append_live(&mut live)?;
         let mut distances = BTreeMap::new(self.alloc);
-        for y in self.live_from(place) {
+        for y in live.as_slice() {
             if let Some(distance) = self.distance(*y, transaction, &distances) {
                 distances.insert(*y, distance)?;
             }
@@ -82,16 +81,14 @@ impl Graph {
     pub(super) fn closing(
         &self,
         transaction: u64,
-        place: usize,
         links: &[Link],
     ) -> Result<Option<Closing>, AllocError>
-        requires place { place < length self.now.live }
-        requires there { get_or self.now.live place 0 ≡ transaction }
+        requires live { is_among transaction self.now.live ≡ true }
         requires usable { IsUsable self.now }
         ensures { IfOk result (λ o. MatchOption o (ClosesNone transaction links.now self.now)
             (ClosesCycle transaction links.now self.now)) }
     {
-        let distances = self.distances(transaction, place)?;
+        let distances = self.distances(transaction)?;
         match nearest(links, &distances) {
             Some(near) => Ok(Some(Closing {
                 by: near.link,
@@ -100,11 +97,4 @@ impl Graph {
             None => Ok(None),
         }
     }
-}
-
-/// Decides whether a link leads from a marked transaction.
-pub(super) fn is_closing(links: &[Link], marks: &BTreeSet<u64>) -> bool
-    ensures { result ≡ list_any (λ (l : Link). has_key marks.now.keys l.from) links.now }
-{
-    links.iter().any(|link| marks.contains(&link.from))
 }
