@@ -10,4 +10,4 @@ mod run;
 pub use plan::Plan;
 pub use report::Report;
 pub use result::{Atomicity, JobResult};
-pub use run::{run_job, serial_of};
+pub use run::{atomicity_of, run_job, serial_of};

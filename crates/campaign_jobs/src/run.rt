@@ -53,7 +53,7 @@ fn feed_job(
 }
 
 /// Returns the atomicity that a verdict shows.
-fn atomicity_of(verdict: Verdict) -> Atomicity
+pub fn atomicity_of(verdict: Verdict) -> Atomicity
     ensures { result ≡ atomicity_of verdict }
 {
     match verdict {

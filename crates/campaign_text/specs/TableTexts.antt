@@ -11,11 +11,15 @@ abbrev pub atomicity_text : Atomicity → List ℕ
 atomicity_text atomicity.Atomic = codes "atomic"
 atomicity_text (atomicity.Cycle first_at) = codes "cycle at " ++ decimal first_at
 
--- Returns the line `job K atomic status S turns N events M`, or `job K cycle at E status S turns N events M`.
+-- Returns the words `atomic status S turns N events M`, or `cycle at E status S turns N events M`.
+abbrev pub result_text : JobResult → List ℕ
+result_text r =
+    atomicity_text r.atomicity ++ codes " status " ++ status_text r.status ++ codes " turns " ++ decimal r.turns ++ codes " events "
+    ++ decimal r.events
+
+-- Returns the line of a job: `job K`, and the words of its result.
 abbrev pub job_line : ℕ → JobResult → List ℕ
-job_line number r =
-    codes "job " ++ decimal number ++ codes " " ++ atomicity_text r.atomicity ++ codes " status " ++ status_text r.status
-    ++ codes " turns " ++ decimal r.turns ++ codes " events " ++ decimal r.events ++ codes "\n"
+job_line number r = codes "job " ++ decimal number ++ codes " " ++ result_text r ++ codes "\n"
 
 -- Returns the lines of jobs, the first of which has this number.
 abbrev pub job_lines : ℕ → List JobResult → List ℕ

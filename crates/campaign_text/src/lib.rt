@@ -11,6 +11,7 @@ mod table;
 
 pub use fault::{JoinFault, TableFault};
 pub use joining::join;
+pub use line::push_result;
 pub use part::Part;
 pub use reading::read_table;
 pub use table::table_text;

@@ -1,8 +1,8 @@
 //! Makes the lines of a table.
 
-ghost use Rattle.std.specs.Prelude.{◌≡◌, IfOk};
+ghost use Rattle.std.specs.Prelude.{◌≡◌, ◌++◌, IfOk, OnOk};
 ghost use Rattle.std.specs.String.{string_bytes};
-ghost use Rattle.campaign_text.specs.TableTexts.{atomicity_text, job_line, totals_line};
+ghost use Rattle.campaign_text.specs.TableTexts.{atomicity_text, job_line, result_text, totals_line};
 
 use campaign::{Atomicity, JobResult};
 use machine_text::status_name;
@@ -21,20 +21,28 @@ fn atomicity_text(alloc: Global, atomicity: Atomicity) -> Result<String, AllocEr
     }
 }
 
-/// Returns the line of a job: `job K atomic status S turns N events M`, or `job K cycle at E status ..`, with its end.
+/// Appends the words of a result: `atomic status S turns N events M`, or `cycle at E status ..`.
+pub fn push_result(alloc: Global, text: &mut String, job: JobResult) -> Result<(), AllocError>
+    ensures { OnOk result (string_bytes text.new ≡ string_bytes text.old ++ result_text job) }
+{
+    let atomicity = atomicity_text(alloc, job.atomicity)?;
+    text.push_str(atomicity.as_str())?;
+    text.push_str(" status ")?;
+    text.push_str(status_name(job.status))?;
+    let turns = job.turns;
+    let events = job.events;
+    let counts = format!(in alloc; " turns {turns} events {events}")?;
+    text.push_str(counts.as_str())?;
+    Ok(())
+}
+
+/// Returns the line of a job: `job K` and the words of its result, with its end.
 pub(crate) fn job_line(alloc: Global, number: u64, job: JobResult) -> Result<String, AllocError>
     ensures { IfOk result (λ line. string_bytes line ≡ job_line number job) }
 {
-    let atomicity = atomicity_text(alloc, job.atomicity)?;
-    let status = status_name(job.status);
     let mut line = format!(in alloc; "job {number} ")?;
-    line.push_str(atomicity.as_str())?;
-    line.push_str(" status ")?;
-    line.push_str(status)?;
-    let turns = job.turns;
-    let events = job.events;
-    let counts = format!(in alloc; " turns {turns} events {events}\n")?;
-    line.push_str(counts.as_str())?;
+    push_result(alloc, &mut line, job)?;
+    line.push_str("\n")?;
     Ok(line)
 }
 

@@ -100,8 +100,15 @@ Usage: jvmx run --entry E [--args N,N] [--sched S] [--max N] [--spec F]
               seed:S:K    the enabled thread that a random number picks; S, the
                           generator's state, and K, its stream, are below
                           18446744073709551616
+              stay:N=T,.. thread T at turn N, counted from 0; N rises, and is
+                          below 18446744073709551616. At all other turns the
+                          last thread while it is enabled, else the next enabled
+                          one by rising number and round; thread 0 begins. Where
+                          T isn't enabled, its turn changes nothing, and none
+                          follows
               @FILE       the schedule that this file holds, on one line
-              examples: --sched list:0,0,1, --sched rr:2, --sched seed:42:54
+              examples: --sched list:0,0,1, --sched rr:2, --sched seed:42:54,
+              --sched stay:3=1,7=0
   --max N     how many turns may be taken: decimal digits, at most 100000000
               (default: 1000000)
   --spec F    which methods are to be atomic, as jvmx help check says: reports
@@ -115,8 +122,8 @@ are FILEs.
 Threads have numbers from 0, in the order of their starts; the entry runs as
 thread 0. A thread is enabled where it can go on: it hasn't ended, waits for no
 other thread and no notification, and isn't before an instruction that doesn't
-run. The run ends where no thread is enabled, the list is at its end, or --max
-turns were taken. jvmx help eval has its other limits, and what runs.
+run. The run ends where no thread is enabled, the schedule is at its end, or
+--max turns were taken. jvmx help eval has its other limits, and what runs.
 
 Standard output: the bytes that the program writes. Standard error: uncaught T C
 for each thread T that ended with an exception, of class C; then status S turns

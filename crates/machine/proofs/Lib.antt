@@ -2,6 +2,7 @@ mod Answered
 mod Callers
 mod Deciding
 mod EntryLaws
+mod LocalDecisions
 mod Made
 mod OnLaws
 mod Others

@@ -4,6 +4,7 @@
 mod applying;
 mod fault;
 mod limits;
+mod local;
 mod machine;
 mod opening;
 mod peek;

@@ -3,6 +3,7 @@
 ghost use Rattle.std.specs.Prelude.{◌≡◌, ◌≤◌, ◌++◌, length, IsOk, IsTrue, IfOk, OnOk, OnErr, is_ok};
 ghost use Rattle.jvms_machine.specs.Opening.{start_of_entry};
 ghost use Rattle.jvms_machine.specs.State.{Sound};
+ghost use Rattle.local_laws.specs.Local.{is_local};
 ghost use Rattle.machine_parts.specs.Machine.{transition_of, with_state, TakesNone};
 ghost use Rattle.machine.specs.Others.{LeavesOthers};
 ghost use Rattle.machine.specs.Runs.{AreRunTurns};
@@ -12,6 +13,7 @@ ghost use Rattle.trace.specs.Recording.{with_items};
 use crate::applying::Turn;
 use crate::fault::MachineFault;
 use crate::limits::are_limits;
+use crate::local::is_local;
 use crate::opening::open;
 use crate::peek::peek;
 use crate::running::{step, step_consecutive};
@@ -157,6 +159,16 @@ impl<'p> Machine<'p> {
         ensures { result ≡ (transition_of self.now t).outcome }
     {
         peek(&self.parts, t)
+    }
+
+    /// Decides whether a thread's next turn is local: it touches its top frame alone, or is a call that enters no monitor
+    /// or a return that leaves none. Takes no memory.
+    #[tactic(auto, using(crate::proofs::Callers::threads_are_numbered, crate::proofs::Sites::have_their_code))]
+    pub fn is_local(&self, t: ThreadId) -> bool
+        ensures { result
+            ≡ is_local self.now.program self.now.limits self.now.start self.now.state t }
+    {
+        is_local(&self.parts, t)
     }
 
     /// Proves that the state of every machine is sound. Does nothing.

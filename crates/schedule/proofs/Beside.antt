@@ -99,7 +99,7 @@ module _ (p q : ℕ → Bool) (fewer : (t : ℕ) → p t ≡ true → q t ≡ tr
       by_found (Some h) found there = rw (find_some (nat_lt thread) xs g (found ∙ there) is) refl
       by_found None found there = rw (find_none (nat_lt thread) xs found) (first_some xs g there is)
 
-  choice_some : (count quantum thread turns g : ℕ) → round_robin quantum thread turns (enabled_of q count) ≡ Some g → p g ≡ true → round_robin quantum thread turns (enabled_of p count) ≡ Some g
+  pub choice_some : (count quantum thread turns g : ℕ) → round_robin quantum thread turns (enabled_of q count) ≡ Some g → p g ≡ true → round_robin quantum thread turns (enabled_of p count) ≡ Some g
   choice_some count quantum thread turns g at is =
       by_cases (nat_lt turns quantum) (nat_lt thread count) (q thread) (p thread) refl refl refl refl
       (stays_enabled q count quantum thread turns) (stays_enabled p count quantum thread turns) at

@@ -6,7 +6,7 @@ use Rattle.std.proofs.lemmas.Option.{slice_get-get_or}
 use Rattle.std.proofs.lemmas.Bool.Decides.{nat_tests}
 use Rattle.rand_pcg.specs.Pcg.{pcg32}
 use Rattle.schedule.specs.Schedules as schedules
-use Rattle.schedule.specs.Choosers.{Alone, Chooser, Listed, RoundRobin, Seeded, chooser_of_schedule, next, asks, stays, round_robin, next_of, turns_with, after_choice, generator_of, words_of}
+use Rattle.schedule.specs.Choosers.{Alone, Chooser, Listed, RoundRobin, Seeded, Staying, chooser_of_schedule, next, asks, stays, round_robin, next_of, turns_with, after_choice, generator_of, words_of}
 use Rattle.schedule.specs.Past.{last_of, consecutive_choices, round_robin_after, choice_after, with_choice}
 
 -- ---- Enabled threads
@@ -30,7 +30,7 @@ contains_found p (x ∷ xs) =
 not_true : false ≡ true → ⊥
 not_true h = let P : Bool → Type 0 = λ b. elim b [ true ↦ ⊥ | false ↦ Unit {0} ] in subst P h tt
 
-contains_any : (thread : ℕ) (xs : List ℕ) → list_any (λ t. nat_eq t thread) xs ≡ true → Contains xs thread
+pub contains_any : (thread : ℕ) (xs : List ℕ) → list_any (λ t. nat_eq t thread) xs ≡ true → Contains xs thread
 contains_any thread [] h = absurd (not_true h)
 contains_any thread (x ∷ xs) h =
     let cases : (b : Bool) → nat_eq x thread ≡ b → (b || list_any (λ t. nat_eq t thread) xs) ≡ true → Contains (x ∷ xs) thread =
@@ -68,6 +68,7 @@ chosen_is_enabled (RoundRobin quantum thread turns) enabled h = round_is_enabled
 chosen_is_enabled (Seeded generator) [] h = tt
 chosen_is_enabled (Seeded generator) (t ∷ ts) h = contains_at (t ∷ ts) ((pcg32 generator).0 % length (t ∷ ts))
 chosen_is_enabled Alone enabled h = absurd (not_true h)
+chosen_is_enabled (Staying before last departures) enabled h = absurd (not_true h)
 
 round_without : (b : Bool) (thread : ℕ) → (if (b && false) then Some thread else next_of thread []) ≡ None
 round_without true thread = refl
@@ -91,6 +92,7 @@ none_is_enabled (Seeded generator) (t ∷ ts) h =
     let there : slice_get (t ∷ ts) place ≡ Some (slice_index_or (t ∷ ts) place 0) = slice_get-get_or (t ∷ ts) place 0 (omega arith) in
     (λ none. absurd (not_true (sym (rw there at none))), λ e. absurd (omega (arith, ap length e)))
 none_is_enabled Alone enabled h = absurd (not_true h)
+none_is_enabled (Staying before last departures) enabled h = absurd (not_true h)
 
 -- ---- Turns in a row
 

@@ -2,7 +2,10 @@ mod Alone
 mod Beside
 mod Candidates
 mod Choices
-mod Ranges
+mod Departures
+mod Positions
+pub mod Ranges
 mod Spelling
+mod Stays
 mod Texts
 mod Words

@@ -90,12 +90,15 @@ list_any-cond q true x xs = refl
 list_any-cond q false x xs = refl
 
 -- A thread is among the numbers that pass if and only if it is in the range and passes.
-any_of_range : (p : ℕ → Bool) (thread a n : ℕ) → list_any (λ t. nat_eq t thread) (filter p (range_with_len a n)) ≡ ((nat_le a thread && nat_lt thread (a + n)) && p thread)
+pub any_of_range : (p : ℕ → Bool) (thread a n : ℕ) → list_any (λ t. nat_eq t thread) (filter p (range_with_len a n)) ≡ ((nat_le a thread && nat_lt thread (a + n)) && p thread)
 any_of_range p thread a zero = grind (arith, nat_tests)
 any_of_range p thread a (suc n) =
     list_any-cond (λ t. nat_eq t thread) (p a) a (filter p (range_with_len (a + 1) n))
     ∙ any_of_step (p a) (p thread) (list_any (λ t. nat_eq t thread) (filter p (range_with_len (a + 1) n))) thread a n (λ e. ap p e) (any_of_range p thread (a + 1) n)
 
+-- A thread is among the enabled threads if and only if it is one of all threads and passes.
+pub any_enabled : (p : ℕ → Bool) (count thread : ℕ) → list_any (λ t. nat_eq t thread) (enabled_of p count) ≡ (nat_lt thread count && p thread)
+any_enabled p count thread = any_of_range p thread 0 count ∙ grind (arith, nat_tests)
+
 pub stays_enabled : (p : ℕ → Bool) (count quantum thread turns : ℕ) → stays quantum thread turns (enabled_of p count) ≡ (nat_lt turns quantum && (nat_lt thread count && p thread))
-stays_enabled p count quantum thread turns =
-    ap (λ b. nat_lt turns quantum && b) (any_of_range p thread 0 count ∙ grind (arith, nat_tests))
+stays_enabled p count quantum thread turns = ap (λ b. nat_lt turns quantum && b) (any_enabled p count thread)

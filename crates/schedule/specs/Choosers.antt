@@ -1,9 +1,10 @@
 -- The choices of choosers. A chooser is the state of a schedule.
-use Rattle.std.specs.Prelude.{◌≡◌, ℕ, zero, suc, ◌+◌, ◌%◌, min, Bool, true, false, not, ◌&&◌, ◌==◌, nat_lt, if◌then◌else◌, List, [], ◌∷◌, length, Option, None, Some, slice_get, unwrap_or}
+use Rattle.std.specs.Prelude.{◌≡◌, ℕ, zero, suc, pred, ◌+◌, ◌-◌, ◌%◌, min, Bool, true, false, not, ◌&&◌, ◌==◌, nat_lt, if◌then◌else◌, List, [], ◌∷◌, length, Option, None, Some, slice_get, unwrap_or}
 use Rattle.std.specs.List.{filter, find, list_any, range_with_len}
 use Rattle.std.specs.Option.{option_or}
 use Rattle.rand_pcg.specs.Lcg.{Lcg, started, increment_of}
 use Rattle.rand_pcg.specs.Pcg.{multiplier_64, pcg32}
+use Rattle.departures.specs.declared.departure.Departure.{Departure}
 use Rattle.schedule.specs.Schedules as schedules
 use Rattle.schedule.specs.Schedules.{Schedule, WritesSeed}
 
@@ -17,6 +18,8 @@ pub data Chooser : Type 0 where
   Seeded : Lcg → Chooser
   -- Thread 0, and no other.
   Alone : Chooser
+  -- The number of turns before the next departure, the last thread, and the departures that are left.
+  Staying : ℕ → ℕ → List Departure → Chooser
 
 -- Returns the generator that starts with a state and a stream.
 abbrev pub generator_of : ℕ → ℕ → Lcg
@@ -32,11 +35,18 @@ abbrev pub IsSeeded : List ℕ → Lcg → Type 0
 IsSeeded text generator =
     (state : ℕ) × (stream : ℕ) × WritesSeed text state stream × (generator ≡ generator_of state stream)
 
--- Returns the chooser of a schedule before its first choice. Round robin starts at thread 0, with no turn counted.
+-- Returns the number of turns from a position to the first of these departures, or 0 if there is none.
+abbrev pub turns_before : ℕ → List Departure → ℕ
+turns_before position [] = 0
+turns_before position (d ∷ ds) = d.position - position
+
+-- Returns the chooser of a schedule before its first choice. Round robin starts at thread 0, with no turn counted, and
+-- departures are from a default that starts with thread 0.
 abbrev pub chooser_of_schedule : Schedule → Chooser
 chooser_of_schedule (schedules.Listed threads) = Listed threads
 chooser_of_schedule (schedules.RoundRobin quantum) = RoundRobin quantum 0 0
 chooser_of_schedule (schedules.Seeded state stream) = Seeded (generator_of state stream)
+chooser_of_schedule (schedules.Staying departures) = Staying (turns_before 0 departures) 0 departures
 
 -- Returns the enabled threads among this number of threads, in rising order.
 abbrev pub enabled_of : (ℕ → Bool) → ℕ → List ℕ
@@ -82,6 +92,30 @@ by_word generator (t ∷ ts) =
 abbrev pub alone : List ℕ → Option ℕ
 alone enabled = find (λ t. t == 0) enabled
 
+-- ---- Departures from a default
+
+-- Returns the default: the last thread while it is enabled, else the next enabled one.
+abbrev pub default : ℕ → List ℕ → Option ℕ
+default last enabled = if list_any (λ t. t == last) enabled then Some last else next_of last enabled
+
+-- Returns a default choice, if there is one, and the chooser after it.
+abbrev pub stay : ℕ → ℕ → List Departure → Option ℕ → Option ℕ × Chooser
+stay before last departures None = (None, Staying before last departures)
+stay before last departures (Some t) = (Some t, Staying (pred before) t departures)
+
+-- Returns the thread of a departure, and the chooser after it. Without the thread being enabled it is the last choice.
+abbrev pub depart : Departure → List Departure → List ℕ → Option ℕ × Chooser
+depart d departures enabled = (
+  Some d.thread,
+  if list_any (λ t. t == d.thread) enabled then Staying (turns_before (d.position + 1) departures) d.thread departures else Listed [],
+)
+
+-- Returns the next choice, if there is one, and the chooser after it: a departure at its position, else the default.
+abbrev pub stay_or_depart : ℕ → ℕ → List Departure → List ℕ → Option ℕ × Chooser
+stay_or_depart before last [] enabled = stay before last [] (default last enabled)
+stay_or_depart zero last (d ∷ ds) enabled = depart d ds enabled
+stay_or_depart (suc before) last (d ∷ ds) enabled = stay (suc before) last (d ∷ ds) (default last enabled)
+
 -- ---- All of them
 
 -- Returns the next choice, if there is one, and the chooser after it. The enabled threads are in rising order, and
@@ -93,13 +127,15 @@ next (RoundRobin quantum thread turns) enabled =
     (round_robin quantum thread turns enabled, after_choice quantum thread turns (round_robin quantum thread turns enabled))
 next (Seeded generator) enabled = by_word generator enabled
 next Alone enabled = (alone enabled, Alone)
+next (Staying before last departures) enabled = stay_or_depart before last departures enabled
 
--- Returns a chooser with a choice counted. Only round robin counts.
+-- Returns a chooser with a choice counted, which isn't a departure. Lists, random words and thread 0 don't count.
 abbrev pub with_choice : ℕ → Chooser → Chooser
 with_choice chosen (Listed threads) = Listed threads
 with_choice chosen (RoundRobin quantum thread turns) = after_choice quantum thread turns (Some chosen)
 with_choice chosen (Seeded generator) = Seeded generator
 with_choice chosen Alone = Alone
+with_choice chosen (Staying before last departures) = Staying (pred before) chosen departures
 
 -- Returns a chooser with this number of choices of a thread counted.
 unfoldable pub with_choices : ℕ → ℕ → Chooser → Chooser
@@ -131,6 +167,7 @@ asks (Listed threads) = false
 asks (RoundRobin quantum thread turns) = true
 asks (Seeded generator) = true
 asks Alone = false
+asks (Staying before last departures) = false
 
 -- Decides whether random words name the chooser's threads.
 abbrev pub is_seeded : Chooser → Bool
@@ -138,3 +175,4 @@ is_seeded (Listed threads) = false
 is_seeded (RoundRobin quantum thread turns) = false
 is_seeded (Seeded generator) = true
 is_seeded Alone = false
+is_seeded (Staying before last departures) = false

@@ -1,5 +1,9 @@
 pub mod Choosers
 pub mod Enabled
+pub mod Listable
+pub mod Lists
+pub mod Parts
 pub mod Past
+pub mod Positions
 pub mod Rules
 pub mod Schedules

@@ -1,7 +1,8 @@
 -- The schedules, and the texts that spell them.
-use Rattle.std.specs.Prelude.{◌≡◌, ℕ, ◌^◌, ◌<◌, ◌≤◌, List, ◌∷◌, ◌++◌, codes}
-use Rattle.std.specs.List.{AllZip, join_with_byte}
+use Rattle.std.specs.Prelude.{◌≡◌, ℕ, ◌^◌, ◌<◌, ◌≤◌, ◌⊎◌, List, [], ◌∷◌, ◌++◌, codes}
+use Rattle.std.specs.List.{All, AllZip, join_with_byte}
 use Rattle.std.specs.Str.Parse.{IsNumeral, digits_value}
+use Rattle.departures.specs.declared.departure.Departure.{Departure}
 
 -- A schedule determines which threads take the turns of a run.
 pub data Schedule : Type 0 where
@@ -11,6 +12,8 @@ pub data Schedule : Type 0 where
   RoundRobin : ℕ → Schedule
   -- Enabled threads, named by the random words of a generator with this state and this stream.
   Seeded : ℕ → ℕ → Schedule
+  -- These departures, and the default everywhere else.
+  Staying : List Departure → Schedule
 
 -- The text writes this number in decimal digits. Leading zeros are allowed.
 abbrev pub WritesNumber : List ℕ → ℕ → Type 0
@@ -20,10 +23,13 @@ WritesNumber digits n = IsNumeral 10 digits × (digits_value 10 digits ≡ n)
 abbrev pub WritesThread : List ℕ → ℕ → Type 0
 WritesThread digits thread = WritesNumber digits thread × (thread ≤ 4294967295)
 
--- The text writes these numbers of threads, separated by commas. It is empty if there are none.
+-- The text writes these values, separated by commas. It is empty if there are none.
+abbrev pub WritesList : {X : Type 0} → (List ℕ → X → Type 0) → List ℕ → List X → Type 0
+WritesList Writes text values = (parts : List (List ℕ)) × AllZip Writes parts values × (text ≡ join_with_byte 44 parts)
+
+-- The text writes these numbers of threads, separated by commas.
 abbrev pub WritesThreads : List ℕ → List ℕ → Type 0
-WritesThreads text threads =
-    (numbers : List (List ℕ)) × AllZip WritesThread numbers threads × (text ≡ join_with_byte 44 numbers)
+WritesThreads text threads = WritesList WritesThread text threads
 
 -- The text writes a quantum: a number of consecutive turns, from 1 to 1,000,000.
 abbrev pub WritesQuantum : List ℕ → ℕ → Type 0
@@ -35,8 +41,28 @@ WritesSeed text state stream =
     (first : List ℕ) × (second : List ℕ) × WritesNumber first state × WritesNumber second stream
     × (state < 2 ^ 64) × (stream < 2 ^ 64) × (text ≡ first ++ 58 ∷ second)
 
--- The text spells the schedule: `list:`, `rr:` or `seed:`, followed by its numbers.
+-- The text writes a departure: the number of turns before it, and its thread after an equals sign.
+abbrev pub WritesDeparture : List ℕ → Departure → Type 0
+WritesDeparture text d =
+    (first : List ℕ) × (second : List ℕ) × WritesNumber first d.position × (d.position < 2 ^ 64)
+    × WritesThread second d.thread × (text ≡ first ++ 61 ∷ second)
+
+-- Each departure comes before all later ones of the list.
+abbrev pub AreRising : List Departure → Type 0
+AreRising [] = Unit {0}
+AreRising (d ∷ ds) = All (λ later. d.position < later.position) ds × AreRising ds
+
+-- The text writes departures at rising positions, separated by commas.
+abbrev pub WritesDepartures : List ℕ → List Departure → Type 0
+WritesDepartures text departures = WritesList WritesDeparture text departures × AreRising departures
+
+-- The text spells the schedule: `list:`, `rr:`, `seed:` or `stay:`, followed by its numbers.
 abbrev pub Spells : List ℕ → Schedule → Type 0
 Spells text (Listed threads) = (rest : List ℕ) × WritesThreads rest threads × (text ≡ codes "list:" ++ rest)
 Spells text (RoundRobin quantum) = (rest : List ℕ) × WritesQuantum rest quantum × (text ≡ codes "rr:" ++ rest)
 Spells text (Seeded state stream) = (rest : List ℕ) × WritesSeed rest state stream × (text ≡ codes "seed:" ++ rest)
+Spells text (Staying departures) = (rest : List ℕ) × WritesDepartures rest departures × (text ≡ codes "stay:" ++ rest)
+
+-- The text spells a list or departures.
+abbrev pub SpellsListOrDepartures : List ℕ → Type 0
+SpellsListOrDepartures text = ((threads : List ℕ) × Spells text (Listed threads)) ⊎ ((departures : List Departure) × Spells text (Staying departures))

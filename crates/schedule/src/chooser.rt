@@ -2,16 +2,18 @@
 
 ghost use Rattle.std.specs.Prelude.{ℕ, List, ◌≡◌, ◌≤◌, ◌↔◌, length, true, IfOk, IfSome, IsErrOf, IsTrue, MatchOption};
 ghost use Rattle.schedule.specs.Schedules as schedules;
-ghost use Rattle.schedule.specs.Schedules.{Schedule, Listed, RoundRobin, Spells, WritesSeed};
+ghost use Rattle.schedule.specs.Schedules.{Schedule, RoundRobin, Spells, SpellsListOrDepartures, WritesSeed};
 ghost use Rattle.schedule.specs.Enabled.{enabled_threads};
 ghost use Rattle.schedule.specs.Rules.{chooser_of_rule};
 ghost use Rattle.schedule.specs.Choosers.{chooser_of_schedule, enabled_of, by_word, with_choices, is_seeded, may_be_enabled, next, Alone, Seeded, IsNextBeside, IsNextFor, IsSeeded};
 
 use crate::fault::ScheduleFault;
-use crate::list::{ListLeft, listed};
+use crate::list::ListLeft;
 use crate::numbers::{long_number, quantum};
 use crate::round_robin::{Candidate, Turns};
+use crate::staying::Staying;
 use crate::threads::{Threads, alone, enabled_at, enabled_count};
+use departures::Departure;
 use jvms_machine::machine::ThreadId;
 use machine::Machine;
 use rand_core::utils::NextWord;
@@ -30,6 +32,8 @@ enum Rule {
     Seeded(Lcg64Xsh32),
     /// Thread 0 alone.
     Alone,
+    /// Departures from a default.
+    Staying(Staying),
 }
 
 /// The state of a schedule, which gives the thread of each turn.
@@ -60,21 +64,21 @@ fn generator(text: &str) -> Option<Lcg64Xsh32>
 ///
 /// # Errors
 ///
-/// `Syntax` if the text spells no schedule, and `Memory` if memory runs out for a list.
+/// `Syntax` if the text spells no schedule, and `Memory` if memory runs out for a list or departures.
 fn rule_of(alloc: Global, text: &str) -> Result<Rule, ScheduleFault>
     ensures rule { IfOk result (λ rule. (schedule : Schedule)
         × Spells text.now schedule × (chooser_of_rule rule ≡ chooser_of_schedule schedule)) }
     ensures syntax { IsErrOf result ScheduleFault.Syntax → (schedule : Schedule)
         → ¬ (Spells text.now schedule) }
-    ensures memory { IsErrOf result ScheduleFault.Memory
-        → (threads : List ℕ) × Spells text.now (Listed threads) }
+    ensures memory { IsErrOf result ScheduleFault.Memory → SpellsListOrDepartures text.now }
 {
     if let Some(threads) = text.strip_prefix("list:") {
-        let threads = listed(alloc, threads)?;
-        let Ok(list) = ListLeft::new(alloc, threads) else {
-            return Err(ScheduleFault::Memory);
-        };
+        let list = ListLeft::parse(alloc, threads)?;
         return Ok(Rule::Listed(list));
+    }
+    if let Some(departures) = text.strip_prefix("stay:") {
+        let staying = Staying::parse(alloc, departures)?;
+        return Ok(Rule::Staying(staying));
     }
     if let Some(number) = text.strip_prefix("rr:") {
         let quantum = quantum(number).ok_or(ScheduleFault::Syntax)?;
@@ -131,7 +135,7 @@ fn candidate_alone<T: Threads>(threads: &T) -> Option<Candidate>
 }
 
 impl Rule {
-    /// Returns a rule that makes the same choices. Both share the threads of a list.
+    /// Returns a rule that makes the same choices. Both share the threads of a list, and departures.
     fn copy(&self) -> Result<Rule, AllocError>
         ensures { IfOk result (λ rule. chooser_of_rule rule ≡ chooser_of_rule self.now) }
     {
@@ -140,6 +144,7 @@ impl Rule {
             Rule::RoundRobin(turns) => Ok(Rule::RoundRobin(*turns)),
             Rule::Seeded(generator) => Ok(Rule::Seeded(generator.clone()?)),
             Rule::Alone => Ok(Rule::Alone),
+            Rule::Staying(staying) => Ok(Rule::Staying(staying.copy()?)),
         }
     }
 }
@@ -176,17 +181,32 @@ impl Chooser {
         Chooser { rule: Rule::Alone }
     }
 
+    /// Returns the chooser of the schedule `stay:N=T,N=T..` of these departures: each names a thread T at a position N,
+    /// counted in turns from 0. Everywhere else the last thread stays the choice while it is enabled. A departure that
+    /// isn't at a later position than the one before it is the next choice after it.
+    pub fn staying(alloc: Global, departures: Vec<Departure>) -> Result<Chooser, AllocError>
+        ensures { IfOk result
+            (λ c. c ≡ chooser_of_schedule (schedules.Staying departures.items)) }
+    {
+        let staying = Staying::new(alloc, departures)?;
+        Ok(Chooser {
+            rule: Rule::Staying(staying),
+        })
+    }
+
     /// Returns the chooser of the schedule that a text spells:
     ///
     /// - `list:` and numbers of threads up to 4,294,967,295, separated by commas, maybe none,
     /// - `rr:Q` with a quantum Q from 1 to 1,000,000,
-    /// - `seed:S:K` with a state S and a stream K below 2^64.
+    /// - `seed:S:K` with a state S and a stream K below 2^64,
+    /// - `stay:` and departures `N=T`, separated by commas, maybe none: positions N below 2^64, each above the one before,
+    ///   and threads T up to 4,294,967,295.
     ///
     /// Numbers are decimal digits. Leading zeros are allowed.
     ///
     /// # Errors
     ///
-    /// `Syntax` if and only if the text spells no schedule. `Memory` if memory runs out for a list.
+    /// `Syntax` if and only if the text spells no schedule. `Memory` if memory runs out for a list or departures.
     pub fn parse(alloc: Global, text: &str) -> Result<Chooser, ScheduleFault>
         ensures chooser { IfOk result (λ chooser. (schedule : Schedule)
             × Spells text.now schedule × (chooser ≡ chooser_of_schedule schedule)) }
@@ -195,14 +215,14 @@ impl Chooser {
             → IfOk result (λ chooser. chooser ≡ chooser_of_schedule schedule) }
         ensures syntax { IsErrOf result ScheduleFault.Syntax
             ↔ ((schedule : Schedule) → ¬ (Spells text.now schedule)) }
-        ensures memory { IsErrOf result ScheduleFault.Memory
-            → (threads : List ℕ) × Spells text.now (Listed threads) }
+        ensures memory { IsErrOf result ScheduleFault.Memory → SpellsListOrDepartures text.now }
     {
         let rule = rule_of(alloc, text)?;
         Ok(Chooser { rule })
     }
 
-    /// Returns a chooser that makes the same choices. Both share the threads of a list, which aren't copied.
+    /// Returns a chooser that makes the same choices. Both share the threads of a list, and departures. These aren't
+    /// copied.
     pub fn copy(&self) -> Result<Chooser, AllocError>
         ensures { IfOk result (λ chooser. chooser ≡ self.now) }
     {
@@ -221,6 +241,7 @@ impl Chooser {
             Rule::RoundRobin(turns) => turns.next(threads),
             Rule::Seeded(generator) => next_by_word(generator, threads),
             Rule::Alone => alone(threads),
+            Rule::Staying(staying) => staying.next(threads),
         }
     }
 
@@ -241,7 +262,7 @@ impl Chooser {
     {
         match &mut self.rule {
             Rule::Seeded(generator) => word_among(generator, enabled),
-            Rule::Listed(_) | Rule::RoundRobin(_) | Rule::Alone => None,
+            Rule::Listed(_) | Rule::RoundRobin(_) | Rule::Alone | Rule::Staying(_) => None,
         }
     }
 
@@ -252,6 +273,8 @@ impl Chooser {
     ///   next enabled thread by rising number, round to the least.
     /// - `seed:S:K` gives an enabled thread that the next random word names.
     /// - The chooser of thread 0 alone gives thread 0 while it is enabled.
+    /// - `stay:N=T,N=T..` gives T at position N, enabled or not, and no further choice if it isn't. Elsewhere it gives the
+    ///   last thread while it is enabled, else the next enabled thread by rising number, round to the least.
     pub fn next(&mut self, machine: &Machine<'_>) -> Option<ThreadId>
         ensures choice { result ≡ (next self.old (enabled_threads machine.now)).0 }
         ensures after { self.new ≡ (next self.old (enabled_threads machine.now)).1 }
@@ -263,7 +286,8 @@ impl Chooser {
     /// holds as long as the thread is enabled at each of them.
     ///
     /// `rr:Q` predicts the only thread, or the last thread for its remaining turns, else the thread after it. The
-    /// chooser of thread 0 alone predicts that. Lists and random words predict nothing.
+    /// chooser of thread 0 alone predicts that. `stay:N=T,N=T..` predicts the last thread for the turns before the next
+    /// departure, and nothing at a departure. Lists and random words predict nothing.
     pub fn candidate(&self, machine: &Machine<'_>) -> Option<Candidate>
         ensures next { IfSome result
             (λ c. IsNextFor c.turns c.thread (length machine.now.state.threads) self.now) }
@@ -272,6 +296,7 @@ impl Chooser {
         match &self.rule {
             Rule::RoundRobin(turns) => turns.candidate(machine),
             Rule::Alone => candidate_alone(machine),
+            Rule::Staying(staying) => staying.candidate(machine),
             Rule::Listed(_) | Rule::Seeded(_) => None,
         }
     }
@@ -279,8 +304,9 @@ impl Chooser {
     /// Predicts the next choice beside idle threads, which are marked and aren't enabled, without inspecting any thread.
     /// The prediction holds if the predicted thread is enabled.
     ///
-    /// `rr:Q` predicts the last thread if it has turns left and isn't idle, else the next thread that isn't idle. All
-    /// other choosers predict nothing.
+    /// `rr:Q` predicts the last thread if it has turns left and isn't idle, else the next thread that isn't idle.
+    /// `stay:N=T,N=T..` predicts the last thread if it isn't idle, else the next thread that isn't idle, and nothing at a
+    /// departure. All other choosers predict nothing.
     pub fn candidate_beside(&self, machine: &Machine<'_>, idle: &[bool]) -> Option<ThreadId>
         ensures next { IfSome result
             (λ t. IsNextBeside idle.now t (length machine.now.state.threads) self.now) }
@@ -288,6 +314,7 @@ impl Chooser {
     {
         match &self.rule {
             Rule::RoundRobin(turns) => turns.candidate_beside(machine.count(), idle),
+            Rule::Staying(staying) => staying.candidate_beside(machine.count(), idle),
             Rule::Listed(_) | Rule::Seeded(_) | Rule::Alone => None,
         }
     }
@@ -297,8 +324,10 @@ impl Chooser {
     pub fn count(&mut self, chosen: ThreadId, times: u64)
         ensures { self.new ≡ with_choices times chosen self.old }
     {
-        if let Rule::RoundRobin(turns) = &mut self.rule {
-            turns.count_times(chosen, times);
+        match &mut self.rule {
+            Rule::RoundRobin(turns) => turns.count_times(chosen, times),
+            Rule::Staying(staying) => staying.count_times(chosen, times),
+            Rule::Listed(_) | Rule::Seeded(_) | Rule::Alone => {}
         }
     }
 }

@@ -10,7 +10,7 @@ pub enum ScheduleFault {
     /// H01: the text spells no schedule.
     #[error("H01 Syntax")]
     Syntax,
-    /// Memory ran out for a list.
+    /// Memory ran out for a list or departures.
     #[error("Memory")]
     Memory,
 }

@@ -1,9 +1,12 @@
 //! Laws about choosers: each is the contract of a function that does nothing.
 
-ghost use Rattle.std.specs.Prelude.{◌≡◌, ◌↔◌, ℕ, ◌<◌, IsTrue, IsNone, IfSome, List, [], ◌∷◌, Contains};
-ghost use Rattle.schedule.specs.Schedules.{RoundRobin};
-ghost use Rattle.schedule.specs.Choosers.{Chooser, chooser_of_schedule, next, asks, generator_of, words_of};
+ghost use Rattle.std.specs.Prelude.{◌≡◌, ◌↔◌, ℕ, ◌+◌, ◌<◌, IsTrue, IsNone, IfSome, List, [], ◌∷◌, Contains};
+ghost use Rattle.departures.specs.Departures.{chosen_at, left_at};
+ghost use Rattle.departures.specs.declared.departure.Departure.{Departure};
+ghost use Rattle.schedule.specs.Schedules.{RoundRobin, Staying};
+ghost use Rattle.schedule.specs.Choosers.{Chooser, Listed, asks, chooser_of_schedule, default, generator_of, next, round_robin, words_of};
 ghost use Rattle.schedule.specs.Past.{round_robin_after, choice_after, with_choice};
+ghost use Rattle.schedule.specs.Positions.{staying_at, AreRisingFrom};
 
 /// States that round robin and random words choose an enabled thread, as long as there is one.
 #[tactic(auto, using(crate::proofs::Choices::chosen_is_enabled, crate::proofs::Choices::none_is_enabled))]
@@ -31,4 +34,29 @@ pub fn round_robin_counts_consecutive_choices()
 pub fn random_words_are_those_of_pcg()
     ensures { words_of 6 (generator_of 42 54)
         ≡ 0xa15c02b7 ∷ 0x7b47f409 ∷ 0xba1d3330 ∷ 0x83d2f293 ∷ 0xbfa4784b ∷ 0xcbed606e ∷ [] }
+{}
+
+/// States that each departure is made at its position, and the default is the choice at every other position. After a
+/// departure to a thread that isn't enabled there is no choice.
+#[tactic(auto, using(crate::proofs::Positions::turn, crate::proofs::Positions::rest, crate::proofs::Positions::ended))]
+pub fn departures_are_made_at_their_positions()
+    ensures start { (departures : List Departure) → chooser_of_schedule (Staying departures)
+        ≡ staying_at 0 0 departures }
+    ensures turn { (position last t : ℕ) (departures : List Departure) (enabled : List ℕ)
+        → AreRisingFrom position departures → default last enabled ≡ Some t
+        → let chosen = chosen_at position t departures in
+        Contains enabled chosen → next (staying_at position last departures) enabled
+        ≡ (Some chosen, staying_at (position + 1) chosen (left_at position departures)) }
+    ensures rest { (position : ℕ) (departures : List Departure) → AreRisingFrom position departures
+        → AreRisingFrom (position + 1) (left_at position departures) }
+    ensures ended { (last : ℕ) (d : Departure) (departures : List Departure) (enabled : List ℕ)
+        → ¬ (Contains enabled d.thread)
+        → next (staying_at d.position last (d ∷ departures)) enabled ≡ (Some d.thread, Listed []) }
+{}
+
+/// States that the default is the choice of round robin with turns left.
+#[tactic(auto, using(crate::proofs::Positions::turns_left))]
+pub fn the_default_is_round_robin_with_turns_left()
+    ensures { (quantum turns last : ℕ) (enabled : List ℕ) → turns < quantum
+        → default last enabled ≡ round_robin quantum last turns enabled }
 {}

@@ -7,7 +7,9 @@ pub mod laws;
 mod list;
 mod numbers;
 mod round_robin;
+mod staying;
 mod threads;
+mod written;
 
 pub use chooser::Chooser;
 pub use fault::ScheduleFault;

@@ -1,11 +1,11 @@
-//! Lists of threads in texts.
+//! Lists of threads.
 
-ghost use Rattle.std.specs.Prelude.{ℕ, List, ◌≡◌, ◌++◌, ◌∷◌, [], drop, IfOk, IfSome, IsErrOf, MatchOption};
+ghost use Rattle.std.specs.Prelude.{ℕ, List, ◌≡◌, drop, IfOk, IsErrOf};
 ghost use Rattle.schedule.specs.Schedules.{WritesThreads};
 ghost use Rattle.schedule.specs.Choosers.{Listed, next};
 
 use crate::fault::ScheduleFault;
-use crate::numbers::thread_number;
+use crate::written::listed;
 use jvms_machine::machine::ThreadId;
 use shared_data::items::Items;
 use shared_data::shared::Shared;
@@ -38,6 +38,25 @@ impl ListLeft {
         })
     }
 
+    /// Returns the list of the threads whose numbers a text writes.
+    ///
+    /// # Errors
+    ///
+    /// `Syntax` if the text is no list of threads. `Memory` if it is one and memory runs out.
+    pub(crate) fn parse(alloc: Global, text: &str) -> Result<ListLeft, ScheduleFault>
+        ensures list { IfOk result (λ list. WritesThreads text.now list) }
+        ensures syntax { IsErrOf result ScheduleFault.Syntax → (threads : List ℕ)
+            → ¬ (WritesThreads text.now threads) }
+        ensures memory { IsErrOf result ScheduleFault.Memory
+            → (threads : List ℕ) × WritesThreads text.now threads }
+    {
+        let threads = listed(alloc, text)?;
+        let Ok(list) = ListLeft::new(alloc, threads) else {
+            return Err(ScheduleFault::Memory);
+        };
+        Ok(list)
+    }
+
     /// Returns a copy that shares the list.
     pub(crate) fn copy(&self) -> Result<ListLeft, AllocError>
         ensures { IfOk result (λ list. list ≡ self.now) }
@@ -56,44 +75,4 @@ impl ListLeft {
         self.place += 1;
         Some(thread)
     }
-}
-
-/// Appends a thread to a list and returns it, or `None` if memory runs out or ran out before.
-fn with_thread(threads: Option<Vec<ThreadId>>, thread: ThreadId) -> Option<Vec<ThreadId>>
-    ensures { IfSome result
-        (λ after. MatchOption threads ⊥ (λ before. after.items ≡ before.items ++ thread ∷ [])) }
-{
-    let mut threads = threads?;
-    threads.push(thread).ok()?;
-    Some(threads)
-}
-
-/// Returns the threads whose numbers a text writes, separated by commas.
-///
-/// # Errors
-///
-/// `Syntax` if the text is no such list. `Memory` if it is one and memory runs out, so the whole text is read.
-pub(crate) fn listed(alloc: Global, text: &str) -> Result<Vec<ThreadId>, ScheduleFault>
-    ensures threads { IfOk result (λ threads. WritesThreads text.now threads.items) }
-    ensures syntax { IsErrOf result ScheduleFault.Syntax → (threads : List ℕ)
-        → ¬ (WritesThreads text.now threads) }
-    ensures memory { IsErrOf result ScheduleFault.Memory
-        → (threads : List ℕ) × WritesThreads text.now threads }
-{
-    if text.is_empty() {
-        return Ok(Vec::new(alloc));
-    }
-    let mut threads = Some(Vec::new(alloc));
-    let mut rest = text;
-    while let Some((number, others)) = rest.split_once(',') {
-        let Some(thread) = thread_number(number) else {
-            return Err(ScheduleFault::Syntax);
-        };
-        threads = with_thread(threads, thread);
-        rest = others;
-    }
-    let Some(thread) = thread_number(rest) else {
-        return Err(ScheduleFault::Syntax);
-    };
-    with_thread(threads, thread).ok_or(ScheduleFault::Memory)
 }

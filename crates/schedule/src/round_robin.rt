@@ -3,7 +3,7 @@
 ghost use Rattle.std.specs.Prelude.{◌≡◌, ◌≤◌, IfSome, true};
 ghost use Rattle.schedule.specs.Choosers.{enabled_of, stays, round_robin, after_choice, turns_with, with_choices, may_be_enabled, IsNextBeside, IsNextFor, RoundRobin};
 
-use crate::threads::{Beside, Threads, next_enabled};
+use crate::threads::{Beside, Threads, has_enabled, next_enabled};
 use jvms_machine::machine::ThreadId;
 
 /// A prediction of the next choice: a thread for a number of consecutive turns, as long as it is enabled.
@@ -28,14 +28,11 @@ pub(crate) struct Turns {
 
 impl Turns {
     /// Returns whether the last thread stays the choice: it is enabled and has turns left.
-    #[tactic(auto, using(crate::proofs::Ranges::stays_enabled))]
     fn stays<T: Threads>(&self, threads: &T) -> bool
         ensures { result ≡ stays self.now.quantum self.now.thread self.now.turns
             (enabled_of (T.passes threads.now) (T.count threads.now)) }
     {
-        self.turns < self.quantum
-            && self.thread < threads.count()
-            && threads.is_enabled(self.thread)
+        self.turns < self.quantum && has_enabled(threads, self.thread)
     }
 
     /// Returns the thread of the next turn, if one is enabled.

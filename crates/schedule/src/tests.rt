@@ -1,8 +1,10 @@
 //! Tests of the texts that spell schedules, and of what choosers choose.
 
 use super::*;
-use crate::round_robin::Turns;
+use crate::round_robin::{Candidate, Turns};
+use crate::staying::Staying;
 use crate::threads::Threads;
+use departures::Departure;
 use jvms_machine::machine::ThreadId;
 use std::alloc::Global;
 use std::process::Abort;
@@ -101,6 +103,43 @@ fn refuses_what_spells_no_schedule(rt: HostRuntime) -> Result<(), Fail> {
         "rr:1\n",
         "seed:1:2\n",
         "list:\u{661}",
+    ];
+    for text in texts {
+        assert!(rt; matches!(Chooser::parse(rt.alloc(), text), Err(ScheduleFault::Syntax)));
+    }
+    Ok(())
+}
+
+#[test]
+fn refuses_what_writes_no_departures(rt: HostRuntime) -> Result<(), Fail> {
+    let texts = [
+        "stay",
+        "stay:1",
+        "stay:=1",
+        "stay:1=",
+        "stay:=",
+        "stay:,",
+        "stay:1=0,",
+        "stay:,1=0",
+        "stay:1=0,,2=1",
+        "stay:2=0,1=1",
+        "stay:1=0,1=1",
+        "stay:0=0,2=1,1=2",
+        "stay:+1=0",
+        "stay:1=+0",
+        "stay:1=-1",
+        "stay: 1=0",
+        "stay:1= 0",
+        "stay:1=0 ",
+        "stay:1=0, 2=1",
+        "stay:1=0=2",
+        "stay:1:0",
+        "stay:1=0;2=1",
+        "stay:a=0",
+        "stay:1=4294967296",
+        "stay:18446744073709551616=0",
+        "Stay:1=0",
+        "stay:1=0\n",
     ];
     for text in texts {
         assert!(rt; matches!(Chooser::parse(rt.alloc(), text), Err(ScheduleFault::Syntax)));
@@ -223,6 +262,121 @@ fn thread_0_alone_is_chosen_while_it_is_enabled(rt: HostRuntime) -> Result<(), F
     for (enabled, chosen) in cases {
         let count = u32::try_from(enabled.len()).unwrap_or(0);
         assert_eq!(rt; chooser.choose(&Flags { enabled, count }), chosen);
+    }
+    Ok(())
+}
+
+#[test]
+fn the_default_stays_with_its_thread(rt: HostRuntime) -> Result<(), Fail> {
+    let all: &[bool] = &[true, true, true];
+    let none: &[bool] = &[false, false, false];
+    let turns = [
+        (all, Some(0)),
+        (all, Some(0)),
+        (&[false, true, true], Some(1)),
+        (all, Some(1)),
+        (none, None),
+        (all, Some(1)),
+        (&[true, false, true], Some(2)),
+        (&[true, true, false], Some(0)),
+    ];
+    are_chosen(&rt, rt.alloc(), "stay:", &turns)?;
+    let third: &[bool] = &[false, false, true];
+    let turns = [
+        (third, Some(2)),
+        (none, None),
+        (all, Some(2)),
+        (all, Some(1)),
+    ];
+    are_chosen(&rt, rt.alloc(), "stay:2=1", &turns)
+}
+
+#[test]
+fn departures_are_made_at_their_positions(rt: HostRuntime) -> Result<(), Fail> {
+    let all: &[bool] = &[true, true, true];
+    let turns = [(all, Some(1)), (all, Some(1))];
+    are_chosen(&rt, rt.alloc(), "stay:0=1", &turns)?;
+    are_chosen(&rt, rt.alloc(), "stay:000=0001", &turns)?;
+    are_chosen(
+        &rt,
+        rt.alloc(),
+        "stay:0=1,18446744073709551615=4294967295",
+        &turns,
+    )?;
+    let turns = [
+        (all, Some(0)),
+        (all, Some(0)),
+        (all, Some(0)),
+        (all, Some(1)),
+        (&[true, false, true], Some(2)),
+        (all, Some(2)),
+        (all, Some(2)),
+        (all, Some(0)),
+        (all, Some(2)),
+        (all, Some(2)),
+        (&[true, true, false], Some(0)),
+    ];
+    are_chosen(&rt, rt.alloc(), "stay:3=1,7=0,8=2", &turns)
+}
+
+#[test]
+fn choices_end_at_a_departure_that_is_not_enabled(rt: HostRuntime) -> Result<(), Fail> {
+    let all: &[bool] = &[true, true, true];
+    let turns = [
+        (all, Some(0)),
+        (&[true, false, true], Some(1)),
+        (all, None),
+        (all, None),
+    ];
+    are_chosen(&rt, rt.alloc(), "stay:1=1,2=2", &turns)?;
+    let turns = [(all, Some(4294967295)), (all, None)];
+    are_chosen(&rt, rt.alloc(), "stay:0=4294967295", &turns)
+}
+
+/// Returns the thread and the turns of a candidate.
+fn predicted(candidate: Option<Candidate>) -> Option<(ThreadId, u64)> {
+    let candidate = candidate?;
+    Some((candidate.thread, candidate.turns))
+}
+
+#[test]
+fn departures_predict_the_default(rt: HostRuntime) -> Result<(), Fail> {
+    let all = Flags {
+        enabled: &[true, true, true],
+        count: 3,
+    };
+    let mut staying = Staying::parse(rt.alloc(), "2=1,3=2")?;
+    assert_eq!(rt; predicted(staying.candidate(&all)), Some((0, 2)));
+    assert_eq!(rt; staying.candidate_beside(3, &[]), Some(0));
+    assert_eq!(rt; staying.candidate_beside(3, &[true, true]), Some(2));
+    assert_eq!(rt; staying.candidate_beside(3, &[true, true, true]), None);
+    staying.count_times(0, 2);
+    assert_eq!(rt; predicted(staying.candidate(&all)), None);
+    assert_eq!(rt; staying.candidate_beside(3, &[]), None);
+    assert_eq!(rt; staying.next(&all), Some(1));
+    assert_eq!(rt; predicted(staying.candidate(&all)), None);
+    assert_eq!(rt; staying.next(&all), Some(2));
+    assert_eq!(rt; predicted(staying.candidate(&all)), Some((2, u64::MAX)));
+    let two = Flags { count: 2, ..all };
+    assert_eq!(rt; predicted(staying.candidate(&two)), None);
+    Ok(())
+}
+
+#[test]
+fn departures_make_a_chooser(rt: HostRuntime) -> Result<(), Fail> {
+    let first = Departure {
+        position: 1,
+        thread: 2,
+    };
+    let second = Departure {
+        position: 2,
+        thread: 0,
+    };
+    let departures = vec![in rt.alloc(); first, second]?;
+    let mut chooser = Chooser::staying(rt.alloc(), departures)?;
+    let enabled: &[bool] = &[true, true, true];
+    for chosen in [0, 2, 0, 0] {
+        assert_eq!(rt; chooser.choose(&Flags { enabled, count: 3 }), Some(chosen));
     }
     Ok(())
 }

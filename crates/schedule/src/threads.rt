@@ -1,8 +1,8 @@
 //! Threads, some of which are enabled.
 
-ghost use Rattle.std.specs.Prelude.{◌≡◌, ℕ, ◌-◌, Bool, length, slice_get};
-ghost use Rattle.std.specs.List.{find, range_with_len};
-ghost use Rattle.schedule.specs.Choosers.{alone, enabled_of, may_be_enabled, next_of};
+ghost use Rattle.std.specs.Prelude.{◌≡◌, ℕ, ◌-◌, Bool, ◌==◌, length, slice_get};
+ghost use Rattle.std.specs.List.{find, list_any, range_with_len};
+ghost use Rattle.schedule.specs.Choosers.{alone, default, enabled_of, may_be_enabled, next_of};
 ghost use Rattle.schedule.specs.Enabled.{is_enabled_in};
 
 use jvms_machine::machine::ThreadId;
@@ -91,6 +91,25 @@ pub(crate) fn next_enabled<T: Threads>(threads: &T, thread: ThreadId) -> Option<
     match first_enabled(threads, thread + 1, count) {
         Some(next) => Some(next),
         None => first_enabled(threads, 0, thread + 1),
+    }
+}
+
+/// Returns whether a thread is among the enabled ones.
+pub(crate) fn has_enabled<T: Threads>(threads: &T, thread: ThreadId) -> bool
+    ensures { result
+        ≡ list_any (λ t. t == thread) (enabled_of (T.passes threads.now) (T.count threads.now)) }
+{
+    thread < threads.count() && threads.is_enabled(thread)
+}
+
+/// Returns the last thread if it is enabled, else the next enabled one.
+pub(crate) fn default<T: Threads>(threads: &T, last: ThreadId) -> Option<ThreadId>
+    ensures { result ≡ default last (enabled_of (T.passes threads.now) (T.count threads.now)) }
+{
+    if has_enabled(threads, last) {
+        Some(last)
+    } else {
+        next_enabled(threads, last)
     }
 }
 

@@ -59,13 +59,14 @@ Make room, and run again.
         "\
 H01 Syntax
 
-The word after --sched is no schedule: it is list: and threads parted by
-commas, maybe none; rr:Q with Q from 1 to 1,000,000; or seed:S:K with S and K
-below 2 to the 64. Numbers are decimal digits. White space, a comma at the end
-and capitals aren't taken. K and K + 9,223,372,036,854,775,808 give the same
-schedule. A list of some 65,500 threads or more is too long a word for Linux:
-the shell says Argument list too long. Write it to a file F, as one line, and
---sched @F.
+The word after --sched is no schedule: it is list: and threads parted by commas,
+maybe none; rr:Q with Q from 1 to 1,000,000; seed:S:K with S and K below 2 to
+the 64; or stay: and turns N=T parted by commas, maybe none, with rising N below
+2 to the 64 and threads T. Numbers are decimal digits. White space, a comma at
+the end and capitals aren't taken. K and K + 9,223,372,036,854,775,808 give the
+same schedule. A list of some 65,500 threads or more is too long a word for
+Linux: the shell says Argument list too long. Write it to a file F, as one line,
+and --sched @F.
 ",
     ),
     (

@@ -27,7 +27,9 @@ returns g c =
     let whole : n - 0 ≡ n = omega arith in
     let given = c.in_ok-collect.ensures in
     let gives = rw (c.filter_map.ensures.base, c.with_min_len.ensures.base) at given.1.2 in
-    let each = rw c.filter_map.ensures.f at given.1.3 in
+    let each =
+    subst (λ f. AllZip (IsFindingAt f.1.now f.2.now f.3.now.results.items) given.1.0 given.1.1) c.filter_map.ensures.f given.1.3
+    in
     let numbers_are = gives ∙ (λ i. nat_range (ends.0 i) ((ends.1 ∙ len) i)) ∙ ap (range_with_len 0) whole in
     let zipped = subst (λ l. AllZip (IsFindingAt c.args.program.now c.args.plan.now results.items) l given.1.1) numbers_are each in
     MatchResult-weaker c.in_ok-collect.field-0 given.2

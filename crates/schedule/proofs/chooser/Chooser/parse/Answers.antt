@@ -1,14 +1,14 @@
-use Rattle.std.proofs.Common.{ℕ, List, ap, ◌∙◌}
-use Rattle.schedule.specs.Schedules.{Schedule, Spells, Listed}
+use Rattle.std.proofs.Common.{ap, ◌∙◌}
+use Rattle.schedule.specs.Schedules.{Schedule, Spells, SpellsListOrDepartures}
 use Rattle.schedule.specs.Choosers.{chooser_of_schedule}
-use Rattle.schedule.proofs.Spelling.{same_schedule, handed_on, is_syntax}
+use Rattle.schedule.proofs.Spelling.{handed_on, is_syntax, never_list, same_schedule}
 use Rattle.schedule.proofs.chooser.Chooser.parse.Goals as goal
 
 pub returns-in_err-rule-clause-syntax : goal.returns-in_err-rule-clause-syntax
 returns-in_err-rule-clause-syntax c =
-    is_syntax ((s : Schedule) → ¬ (Spells c.args.text.now s)) ((threads : List ℕ) × Spells c.args.text.now (Listed threads))
+    is_syntax ((s : Schedule) → ¬ (Spells c.args.text.now s)) (SpellsListOrDepartures c.args.text.now)
     c.from_residual.result c.in_err-rule.field-0.0 (handed_on c.from_residual.result c.in_err-rule.field-0.0 c.from_residual.ensures)
-    c.in_err-rule.ensures.syntax c.in_err-rule.ensures.memory (λ never spelled. never (Listed spelled.0) spelled.1)
+    c.in_err-rule.ensures.syntax c.in_err-rule.ensures.memory (never_list c.args.text.now)
 
 pub returns-clause-only : goal.returns-clause-only
 returns-clause-only c =
