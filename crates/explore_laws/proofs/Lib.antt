@@ -1,2 +1,4 @@
 mod Covering
+mod Defaults
 mod Ended
+mod Named

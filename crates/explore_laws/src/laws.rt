@@ -1,6 +1,8 @@
 //! Laws about what an exploration covers: each is the contract of a function that does nothing.
 
-ghost use Rattle.std.specs.Prelude.{ℕ, ◌≤◌, List, IsTrue, length};
+ghost use Rattle.std.specs.Prelude.{◌≡◌, ℕ, ◌≤◌, List, IsTrue, length};
+ghost use Rattle.departures.specs.Departures.{name_of};
+ghost use Rattle.departures.specs.Turns.{IsSchedule};
 ghost use Rattle.explore_laws.specs.Coverage.{EndsWell, IsWholeRun, JobsEndWell};
 ghost use Rattle.jvms_machine.specs.Limits.{are_limits};
 ghost use Rattle.jvms_machine.specs.Start.{IsStart, Start};
@@ -8,6 +10,11 @@ ghost use Rattle.jvms_machine.specs.State.{Sound, State};
 ghost use Rattle.jvms_machine.specs.declared.machine.Limits.{Limits};
 ghost use Rattle.jvms_program.specs.Program.{IsProgram};
 ghost use Rattle.jvms_program.specs.declared.program.Class.{Class};
+ghost use Rattle.local_turns.specs.Turns.{turns_of};
+ghost use Rattle.machine.specs.Machine.{Machine};
+ghost use Rattle.runs.specs.Choices.{choices_from};
+ghost use Rattle.schedule.specs.Choosers.{chooser_of_schedule};
+ghost use Rattle.schedule.specs.Schedules.{Staying};
 ghost use Rattle.velodrome.specs.Specification.{Specification};
 
 /// Proves that jobs speak for all runs: if the runs of all jobs up to a level end well, so does each run that ends and has
@@ -19,4 +26,12 @@ pub fn jobs_speak_for_all_runs()
         → JobsEndWell program limits start lines turns s most → (choices : List ℕ)
         → IsWholeRun program limits start s most choices
         → (length choices ≤ turns) × EndsWell program limits start lines s choices }
+{}
+
+/// Proves that the chooser of a schedule's departures makes its choices.
+pub fn departures_make_the_choices_of_a_schedule()
+    ensures { (m : Machine) (turns : ℕ) (choices : List ℕ)
+        → IsSchedule (turns_of m.program m.limits m.start) turns m.state choices
+        → choices_from turns (chooser_of_schedule (Staying
+        (name_of (turns_of m.program m.limits m.start) 0 m.state 0 choices))) m ≡ choices }
 {}

@@ -1,0 +1,2 @@
+mod Fated
+pub mod Taken

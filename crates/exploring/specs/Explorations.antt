@@ -1,0 +1,99 @@
+-- Explorations: the levels of jobs of a program, and how their runs end.
+use Rattle.std.specs.Prelude.{◌≡◌, ℕ, ◌+◌, ◌≤◌, ◌<◌, Bool, ◌&&◌, ◌==◌, List, [], length, take, IsTrue, Option, Ok, is_none}
+use Rattle.std.specs.List.{AllZip, position}
+use Rattle.departures.specs.Jobs.{AreGoodBelow, all_children, children_of, jobs_of}
+use Rattle.departures.specs.declared.departure.Departure.{Departure}
+use Rattle.explore_jobs.specs.Fates.{IsFateOf, fails}
+use Rattle.explore_jobs.specs.Plans.{fits}
+use Rattle.explore_jobs.specs.declared.fate.Fate.{Fate}
+use Rattle.explore_jobs.specs.declared.plan.Plan.{Plan}
+use Rattle.explore_laws.specs.Coverage.{EndsWell, IsWholeRun}
+use Rattle.exploring.specs.Levels.{LevelJobs}
+use Rattle.jvms_machine.specs.Opening.{opening, start_of_entry}
+use Rattle.jvms_machine.specs.Start.{Start}
+use Rattle.jvms_program.specs.declared.program.Class.{Class}
+use Rattle.local_laws.specs.Local.{is_local}
+use Rattle.local_turns.specs.Turns.{turns_of}
+
+-- An exploration on its way: the first jobs of a level, how many jobs the level has, how the first runs ended, and whether all
+-- levels below are whole and have no run that fails.
+pub record Explored : Type 0 where
+  pub program : List Class
+  pub plan : Plan
+  pub jobs : LevelJobs
+  pub count : ℕ
+  pub fates : List Fate
+  pub is_good_below : Bool
+
+-- Returns the number of departures of each job.
+abbrev pub level_in : Explored → ℕ
+level_in e = e.jobs.each
+
+-- Each fate is that of the job at its place.
+abbrev pub AreFatesOf : List Class → Plan → List (List Departure) → List Fate → Type 0
+AreFatesOf program plan jobs fates = AllZip (IsFateOf program plan) jobs fates
+
+-- Returns the place of the first run that fails, if one does.
+abbrev pub first_failing : List Fate → Option ℕ
+first_failing fates = position fails fates
+
+-- Decides whether all runs of a level were made.
+abbrev pub is_whole : Explored → Bool
+is_whole e = length e.fates == e.count
+
+-- Decides whether all levels so far are whole, this one among them, and have no run that fails.
+abbrev pub is_good : Explored → Bool
+is_good e = e.is_good_below && is_whole e && is_none (first_failing e.fates)
+
+module _ (program : List Class) (plan : Plan) (start : Start) where
+  -- Returns the jobs of a level, in the order in which they are found.
+  abbrev pub jobs_at : ℕ → List (List Departure)
+  jobs_at level = jobs_of (turns_of program plan.limits start) (is_local program plan.limits start) plan.most (opening program) 0 level
+
+  -- Returns the children of a job, by position and thread.
+  abbrev pub children_at : List Departure → List (List Departure)
+  children_at departures = children_of (turns_of program plan.limits start) (is_local program plan.limits start) plan.most (opening program) 0 departures
+
+  -- Returns the children of all of these jobs.
+  abbrev pub children_of_all : List (List Departure) → List (List Departure)
+  children_of_all jobs = all_children (turns_of program plan.limits start) (is_local program plan.limits start) plan.most (opening program) 0 jobs
+
+  -- The runs of all jobs below a level end well.
+  abbrev pub JobsEndWellBelow : ℕ → Type 0
+  JobsEndWellBelow level =
+      AreGoodBelow (turns_of program plan.limits start) (is_local program plan.limits start) plan.most (opening program) 0 level
+      (EndsWell program plan.limits start plan.spec (opening program))
+
+  -- Each run that ends and has fewer departures than this number has no more turns than the plan's, and ends well: all threads
+  -- have ended, none by an exception, and its events have no cycle.
+  abbrev pub CoversBelow : ℕ → Type 0
+  CoversBelow end =
+      (most : ℕ) → most < end → (choices : List ℕ) → IsWholeRun program plan.limits start (opening program) most choices
+      → (length choices ≤ plan.most) × EndsWell program plan.limits start plan.spec (opening program) choices
+
+-- The jobs are the first of their level, and the levels below end well if they are said to be good.
+pub record IsAtLevel (e : Explored) (start : Start) : Type 0 where
+  pub jobs : e.jobs.jobs ≡ take (length e.jobs.jobs) (jobs_at e.program e.plan start (level_in e))
+  pub count : e.count ≡ length (jobs_at e.program e.plan start (level_in e))
+  pub below : IsTrue e.is_good_below → JobsEndWellBelow e.program e.plan start (level_in e)
+
+-- The plan fits the program, the jobs are the first of their level, and the fates are those of the first jobs.
+pub record IsOnWay (e : Explored) : Type 0 where
+  pub fits : IsTrue (fits e.program e.plan)
+  pub fates : AreFatesOf e.program e.plan (take (length e.fates) e.jobs.jobs) e.fates
+  pub level : (start : Start) → start_of_entry e.program e.plan.limits e.plan.entry ≡ Ok start → IsAtLevel e start
+
+-- The next runs of the level were made, some or all.
+pub record IsFurther (old new : Explored) : Type 0 where
+  pub same : new ≡ record old { fates = new.fates }
+  pub more : length old.fates < length new.fates
+
+-- This is the next level, of whose jobs at most this number are kept. No run of it was made.
+pub record IsNextLevel (room : ℕ) (old new : Explored) : Type 0 where
+  pub program : new.program ≡ old.program
+  pub plan : new.plan ≡ old.plan
+  pub level : level_in new ≡ level_in old + 1
+  pub fates : new.fates ≡ []
+  pub below : new.is_good_below ≡ is_good old
+  pub jobs : (start : Start) → start_of_entry new.program new.plan.limits new.plan.entry ≡ Ok start → new.jobs.jobs ≡ take room (jobs_at new.program new.plan start (level_in new))
+  pub count : (start : Start) → start_of_entry new.program new.plan.limits new.plan.entry ≡ Ok start → new.count ≡ length (jobs_at new.program new.plan start (level_in new))

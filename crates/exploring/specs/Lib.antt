@@ -1,0 +1,7 @@
+pub mod Answers
+pub mod Batches
+pub mod Counts
+pub mod Explorations
+pub mod Growths
+pub mod Levels
+pub mod Searches

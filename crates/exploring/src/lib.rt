@@ -1,0 +1,17 @@
+//! Explorations: all schedules of a program with a number of departures from a default, level by level.
+#![tactic(auto)]
+
+mod answer;
+mod batch;
+mod exploration;
+mod growth;
+mod jobs;
+mod level;
+
+pub use answer::{Answer, Bounds, FailingRun, LevelRuns, Observer, Team, explore};
+pub use departures::Departure;
+pub use exploration::Exploration;
+pub use explore_jobs::{Fate, Plan};
+pub use jobs::Jobs;
+pub use level::Level;
+pub use runs::Uncaught;

@@ -1,0 +1,4 @@
+mod Left
+mod Named
+mod Tests
+mod Ways

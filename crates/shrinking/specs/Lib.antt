@@ -1,0 +1,4 @@
+pub mod Failures
+pub mod Least
+pub mod Parts
+pub mod Searches
