@@ -51,17 +51,10 @@ STATUS = re.compile(rb"(?m)^status (\w+) turns")
 MEMORY = {"E02", "X02", "F03", "C18", "J12", "A06", "L03", "K06", "M03", "S03", "G04", "G05", "Memory"}
 # Shapes that grow faster than their inputs, or don't end, and why.
 KNOWN = {
-    # Resolution looks for a member that is missing in all classes above, by name: references times classes.
-    "missing_fields",
-    "missing_methods",
-    "missing_in_interfaces",
-    # The end of a transaction visits all live ones after it (atom_order::graph, close_at).
-    "open_in_order",
-    # A link that leads back moves all live ones after it (atom_order::graph, link_at).
+    # Links that lead back, each into a transaction that reaches many others (atom_order::Graph::link).
     "moved_back",
-    # A turn of instanceof walks through the ancestry where the sets of classes above have ended (classes::class_sets).
-    "tests_of_interfaces",
-    "tests_of_missing_class",
+    # Equal members of several classes are compared by their whole descriptors, which files share (classes::declarations).
+    "shared_descriptors",
 }
 
 Ran = collections.namedtuple("Ran", "size seconds mib answer")
