@@ -59,7 +59,7 @@ pub struct Answer {
     pub is_covered: bool,
 }
 
-/// Who is told how far an exploration is, by the thread that waits for the workers.
+/// Observes an exploration. The thread that waits for the workers calls it.
 pub trait Observer {
     /// Tells that a level with this number of jobs begins.
     fn begins(&self, departures: u64, jobs: u64);
@@ -78,7 +78,7 @@ pub struct Team<'t, R, O> {
     pub rt: &'t R,
     /// The number of threads that run jobs at the same time.
     pub workers: usize,
-    /// Who is told of it.
+    /// The observer of the exploration.
     pub observer: &'t O,
 }
 
