@@ -53,8 +53,6 @@ MEMORY = {"E02", "X02", "F03", "C18", "J12", "A06", "L03", "K06", "M03", "S03", 
 KNOWN = {
     # Links that lead back, each into a transaction that reaches many others (atom_order::Graph::link).
     "moved_back",
-    # Equal members of several classes are compared by their whole descriptors, which files share (classes::declarations).
-    "shared_descriptors",
 }
 
 Ran = collections.namedtuple("Ran", "size seconds mib answer")

@@ -203,7 +203,7 @@ def shared_descriptors(size, _):
         methods = [member(pool, ABSTRACT, f"m{n}", "(L" + "n" * (MOST - 5) + ";)V") for n in range(MOST - 100)]
         return class_file(pool, f"C{number}", methods, [], flags=0x0421)
 
-    return filling(size // 4, make)
+    return filling(size, make)
 
 
 @shape("0")
