@@ -1,0 +1,71 @@
+package jx.ex;
+
+/** IndexOutOfBoundsException with a message and a cause. Written by throwables.py. */
+public class IndexOutOfBoundsException extends java.lang.IndexOutOfBoundsException implements jx.Thrown {
+    private String message;
+    private java.lang.Throwable cause = this;
+    private java.lang.Throwable[] suppressed;
+
+    public IndexOutOfBoundsException() {
+    }
+
+    public IndexOutOfBoundsException(String message) {
+        this.message = message;
+    }
+
+    public IndexOutOfBoundsException(String message, java.lang.Throwable cause) {
+        this.message = message;
+        this.cause = cause;
+    }
+
+    public IndexOutOfBoundsException(java.lang.Throwable cause) {
+        this.message = jx.Throwables.text(cause);
+        this.cause = cause;
+    }
+
+    protected IndexOutOfBoundsException(String message, java.lang.Throwable cause, boolean suppression, boolean writable) {
+        this(message, cause);
+    }
+
+    public IndexOutOfBoundsException(int index) {
+        this.message = "Index out of range: " + index;
+    }
+
+    public String getMessage() {
+        return message;
+    }
+
+    public String getLocalizedMessage() {
+        return getMessage();
+    }
+
+    public java.lang.Throwable getCause() {
+        return cause == this ? null : cause;
+    }
+
+    public java.lang.Throwable initCause(java.lang.Throwable cause) {
+        jx.Throwables.checkCause(this, this.cause, cause);
+        this.cause = cause;
+        return this;
+    }
+
+    public java.lang.Throwable[] jxSuppressed() {
+        return suppressed;
+    }
+
+    public void jxSuppressed(java.lang.Throwable[] suppressed) {
+        this.suppressed = suppressed;
+    }
+
+    public String toString() {
+        return jx.Throwables.describe(this, getLocalizedMessage());
+    }
+
+    public void printStackTrace() {
+        jx.Throwables.print(this, jx.Sys.err);
+    }
+
+    public java.lang.Throwable fillInStackTrace() {
+        return this;
+    }
+}
