@@ -10,6 +10,8 @@ public final class Format {
     private final Object[] arguments;
     private final StringBuilder out = new StringBuilder();
     private int at;
+    /** Where the specifier begins, after its percent sign. */
+    private int start;
     private int ordinary = -1;
     private int last = -1;
 
@@ -51,7 +53,7 @@ public final class Format {
     // ---- the specifier
 
     private void parse() {
-        int start = at;
+        start = at;
         index = 0;
         int digits = number();
         if (digits > 0 && peek() == '$') {
@@ -75,7 +77,7 @@ public final class Format {
         if (peek() == '.') {
             at++;
             if (!isDigit(peek())) {
-                throw unknown('.');
+                throw incomplete();
             }
             precision = 0;
             while (isDigit(peek())) {
@@ -100,9 +102,14 @@ public final class Format {
         return new java.util.UnknownFormatConversionException(String.valueOf(c));
     }
 
+    /** Returns the exception of a specifier without its conversion, which names the specifier's first unit. */
+    private IllegalFormatException incomplete() {
+        return unknown(start < format.length() ? format.charAt(start) : '%');
+    }
+
     private char peek() {
         if (at >= format.length()) {
-            throw unknown('%');
+            throw incomplete();
         }
         return format.charAt(at);
     }

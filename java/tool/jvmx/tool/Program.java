@@ -80,6 +80,7 @@ final class Program {
         }
         reach.addRoot(settings.main, "main([Ljx/Str;)V");
         reach.addCreated("jx/raw/Starter", "run()V");
+        reach.addCreated(InitialiserFailures.ERROR, InitialiserFailures.KEY);
         for (String key : FailureMessages.keys()) {
             reach.addRoot(FailureMessages.owner(), key);
         }
@@ -191,6 +192,9 @@ final class Program {
         handles.replaceWrites(method);
         if (method.owner.isUser()) {
             FailureMessages.add(method);
+        }
+        if (method.owner.isUser() && method.name.equals("<clinit>")) {
+            InitialiserFailures.add(method.adapted);
         }
     }
 

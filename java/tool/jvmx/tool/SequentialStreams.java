@@ -8,10 +8,8 @@ import org.objectweb.asm.Opcodes;
 import org.objectweb.asm.tree.AbstractInsnNode;
 import org.objectweb.asm.tree.InsnNode;
 import org.objectweb.asm.tree.JumpInsnNode;
-import org.objectweb.asm.tree.LookupSwitchInsnNode;
 import org.objectweb.asm.tree.MethodInsnNode;
 import org.objectweb.asm.tree.MethodNode;
-import org.objectweb.asm.tree.TableSwitchInsnNode;
 import org.objectweb.asm.tree.TryCatchBlockNode;
 
 /**
@@ -81,24 +79,12 @@ final class SequentialStreams {
         while (!work.isEmpty()) {
             AbstractInsnNode at = work.poll();
             while (at != null && reached.add(at)) {
-                addTargets(work, at);
+                work.addAll(Flow.targets(at));
                 addHandlers(work, body, at);
-                at = endsPath(at.getOpcode()) ? null : at.getNext();
+                at = Flow.endsPath(at.getOpcode()) ? null : at.getNext();
             }
         }
         return reached;
-    }
-
-    private static void addTargets(Deque<AbstractInsnNode> work, AbstractInsnNode at) {
-        if (at instanceof JumpInsnNode) {
-            work.add(((JumpInsnNode) at).label);
-        } else if (at instanceof TableSwitchInsnNode) {
-            work.add(((TableSwitchInsnNode) at).dflt);
-            work.addAll(((TableSwitchInsnNode) at).labels);
-        } else if (at instanceof LookupSwitchInsnNode) {
-            work.add(((LookupSwitchInsnNode) at).dflt);
-            work.addAll(((LookupSwitchInsnNode) at).labels);
-        }
     }
 
     /** Adds the handlers of ranges that begin here. A range that is entered in its middle can't be by Java's compiler. */
@@ -108,10 +94,5 @@ final class SequentialStreams {
                 work.add(block.handler);
             }
         }
-    }
-
-    private static boolean endsPath(int opcode) {
-        return opcode == Opcodes.GOTO || opcode == Opcodes.ATHROW || opcode >= Opcodes.IRETURN && opcode <= Opcodes.RETURN
-            || opcode == Opcodes.TABLESWITCH || opcode == Opcodes.LOOKUPSWITCH;
     }
 }

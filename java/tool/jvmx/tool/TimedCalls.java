@@ -2,7 +2,6 @@ package jvmx.tool;
 
 import java.util.ArrayList;
 import java.util.Collection;
-import java.util.HashMap;
 import java.util.HashSet;
 import java.util.List;
 import java.util.Map;
@@ -23,9 +22,9 @@ final class TimedCalls {
         + "|java/util/concurrent/locks/(StampedLock|LockSupport|Abstract.*)";
     private static final String TIMED_FACTORIES = "newCachedThreadPool|newScheduled.*|newWorkStealing.*|newSingleThreadScheduled.*";
 
-    private static final String LOCKING_NAMES = "lock|tryLock|lockInterruptibly|writeLock|readLock";
+    private static final String TIMED_BY_UNIT = "await|poll|offer|get|tryLock|tryAcquire|awaitTermination|exchange|invokeAll"
+        + "|invokeAny|awaitAdvanceInterruptibly|sleep|timedJoin|timedWait|join";
 
-    private final Map<String, List<ProgramMethod>> byKey = new HashMap<>();
     private final List<ProgramMethod> reached = new ArrayList<>();
     /** Whether the JDK's code interrupts threads, as a pool does that is shut down. */
     private boolean isInterrupting;
@@ -36,7 +35,6 @@ final class TimedCalls {
                 isInterrupting |= found.origin == Origin.JDK && method.isReached && interrupts(method);
                 if (found.isUser() && method.isReached && method.adapted != null) {
                     reached.add(method);
-                    byKey.computeIfAbsent(method.key(), x -> new ArrayList<>()).add(method);
                 }
             }
         }
@@ -61,41 +59,68 @@ final class TimedCalls {
         return false;
     }
 
-    /** Returns whether a method that owns a monitor, or takes a lock, may wait for a time, itself or by a call. */
+    /** Returns whether a method may wait for a time while it owns a monitor or a lock, itself or in a call. */
     boolean isAnyInMonitor() {
-        Set<ProgramMethod> waiting = waitingMethods();
-        return reached.stream().anyMatch(method -> waiting.contains(method) && isOwner(method));
+        Set<String> waiting = keysOfWaiting();
+        return reached.stream().anyMatch(method -> waitsAsOwner(method, waiting));
     }
 
-    private Set<ProgramMethod> waitingMethods() {
-        Set<ProgramMethod> waiting = new HashSet<>();
+    /** Returns the keys of the methods that wait for a time, themselves or in a call. */
+    private Set<String> keysOfWaiting() {
+        Set<String> waiting = new HashSet<>();
         boolean isNew = true;
         while (isNew) {
             isNew = false;
             for (ProgramMethod method : reached) {
-                if (!waiting.contains(method) && (isTimed(method) || callsOneOf(method, waiting))) {
-                    isNew = waiting.add(method);
+                if (!waiting.contains(method.key()) && waits(method, waiting)) {
+                    isNew = waiting.add(method.key());
                 }
             }
         }
         return waiting;
     }
 
-    private boolean callsOneOf(ProgramMethod method, Set<ProgramMethod> waiting) {
+    private static boolean waits(ProgramMethod method, Set<String> waiting) {
         for (AbstractInsnNode instruction : method.adapted.instructions) {
-            if (!(instruction instanceof MethodInsnNode)) {
+            if (instruction instanceof MethodInsnNode) {
+                MethodInsnNode call = (MethodInsnNode) instruction;
+                if (isWait(call) || isOwnWait(call) || waiting.contains(Names.key(call.name, call.desc))) {
+                    return true;
+                }
+            }
+        }
+        return false;
+    }
+
+    private static boolean waitsAsOwner(ProgramMethod method, Set<String> waiting) {
+        Map<AbstractInsnNode, Integer> depths = null;
+        for (AbstractInsnNode instruction : method.adapted.instructions) {
+            MethodInsnNode call = instruction instanceof MethodInsnNode ? (MethodInsnNode) instruction : null;
+            if (call == null || !isWait(call) && !waiting.contains(Names.key(call.name, call.desc))) {
                 continue;
             }
-            MethodInsnNode call = (MethodInsnNode) instruction;
-            boolean isLambda = call.name.equals(Lambdas.MAKE) && call.owner.contains("$$Lambda$");
-            boolean isWaiting = isLambda
-                ? waiting.stream().anyMatch(other -> other.owner.name().equals(call.owner))
-                : byKey.getOrDefault(Names.key(call.name, call.desc), new ArrayList<>()).stream().anyMatch(waiting::contains);
-            if (isWaiting) {
+            depths = depths == null ? MonitorDepths.of(method.adapted) : depths;
+            if (method.is(Opcodes.ACC_SYNCHRONIZED) || depths.getOrDefault(instruction, 0) > 0) {
                 return true;
             }
         }
         return false;
+    }
+
+    /** Returns whether a call waits for a time and keeps what monitors the caller owns. */
+    private static boolean isWait(MethodInsnNode call) {
+        if (isOwnWait(call)) {
+            return false;
+        }
+        boolean hasUnit = call.desc.contains("Ljava/util/concurrent/TimeUnit;");
+        return hasUnit && call.name.matches(TIMED_BY_UNIT) || call.name.matches("sleep|timedJoin|timedWait|parkNanos|parkUntil")
+            || call.name.equals("join") && call.desc.startsWith("(J");
+    }
+
+    /** Returns whether a call is a wait for a time that frees the monitor of its object, or its lock. */
+    private static boolean isOwnWait(MethodInsnNode call) {
+        boolean isCondition = call.owner.endsWith("/Condition") && call.name.startsWith("await") && !call.desc.startsWith("()");
+        return isCondition || call.name.equals("await") && call.desc.startsWith("(Ljava/lang/Object;J");
     }
 
     private boolean isTimed(ProgramMethod method) {
@@ -112,18 +137,5 @@ final class TimedCalls {
             || call.name.matches(TIMED_NAMES) || call.owner.endsWith("/Executors") && call.name.matches(TIMED_FACTORIES)
             || call.name.equals("await") && call.desc.startsWith("(Ljava/lang/Object;J")
             || call.name.equals("join") && call.desc.startsWith("(J");
-    }
-
-    private static boolean isOwner(ProgramMethod method) {
-        if (method.is(Opcodes.ACC_SYNCHRONIZED)) {
-            return true;
-        }
-        for (AbstractInsnNode instruction : method.adapted.instructions) {
-            boolean isLock = instruction instanceof MethodInsnNode && ((MethodInsnNode) instruction).name.matches(LOCKING_NAMES);
-            if (isLock || instruction.getOpcode() == Opcodes.MONITORENTER) {
-                return true;
-            }
-        }
-        return false;
     }
 }
