@@ -27,6 +27,8 @@ final class StaticDoubles {
                 body.instructions.set(instruction, new InsnNode(Opcodes.ACONST_NULL));
             } else if (isField(instruction, Opcodes.GETSTATIC, "[D")) {
                 removeStore(body, instruction);
+            } else if (isField(instruction, Opcodes.PUTSTATIC, "[D") || isField(instruction, Opcodes.PUTSTATIC, "[F")) {
+                body.instructions.set(instruction, new InsnNode(Opcodes.POP));
             } else if (isField(instruction, Opcodes.PUTSTATIC, "D")) {
                 removeConstant(body, instruction);
             }
