@@ -24,6 +24,8 @@ import profile  # noqa: E402
 
 HERE = Path(__file__).resolve().parent
 FOLDER = HERE.parent / "examples" / "java"
+# Programs for ./jvmx-java, which aren't in the profile.
+ORDINARY = FOLDER / "ordinary"
 # The language and the target of each version, as options of ecj.
 VERSIONS = {45: ("1.3", "1.1"), 48: ("1.4", "1.4"), 49: ("1.5", "1.5"), 50: ("1.6", "1.6")}
 
@@ -53,7 +55,8 @@ def tag(source, name):
 def sources(major):
     """Those that are compiled to a version."""
     every = " ".join(map(str, VERSIONS))
-    return [path for path in sorted(FOLDER.rglob("*.java")) if str(major) in (tag(path, "Majors") or every)]
+    found = [path for path in sorted(FOLDER.rglob("*.java")) if ORDINARY not in path.parents]
+    return [path for path in found if str(major) in (tag(path, "Majors") or every)]
 
 
 def without_final(source, folder):

@@ -3,29 +3,22 @@
 where it would else prove all crates below. Run it again after each `rt ci`. It counts for nothing at the gate.
 
     bench/kept.py [CHECKOUT]
-
-It calls the kit's own code, of rattle-kit-13f: with another kit it may stop.
 """
-import importlib.machinery
-import importlib.util
 import os
 import shutil
 import sys
 from pathlib import Path
 
 sys.dont_write_bytecode = True
-KIT = Path(os.path.realpath(shutil.which("rt") or "/opt/rattle/bin/rt")).parent
+import kit  # noqa: E402
 
 
-def kit():
-    """The modules of `rt`."""
-    sys.path.insert(0, str(KIT))
-    loader = importlib.machinery.SourceFileLoader("rt_main", str(KIT / "rt"))
-    module = importlib.util.module_from_spec(importlib.util.spec_from_loader("rt_main", loader))
-    loader.exec_module(module)
+def loaded():
+    """Returns the module of `rt`."""
+    rt = kit.load()
     # A library that is linked to what is kept could be changed there.
-    module.link_or_copy = shutil.copyfile
-    return module
+    rt.link_or_copy = shutil.copyfile
+    return rt
 
 
 def give(rt, kept, crate):
@@ -46,7 +39,7 @@ def give(rt, kept, crate):
 def main():
     root = os.path.realpath(sys.argv[1] if len(sys.argv) > 1 else ".")
     os.chdir(root)
-    rt = kit()
+    rt = loaded()
     rt.Crate.allowed = rt.handles_of(root)
     crates = rt.crates_of(root)
     kept, there = rt.Kept(crates), set()

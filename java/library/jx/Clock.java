@@ -102,6 +102,11 @@ final class Clock {
         }
     }
 
+    /** Returns whether the thread is the first of those that wait for a time. */
+    static boolean isNext(Thr thread) {
+        return sleepers[0] == thread;
+    }
+
     /** Goes to the next time that is waited for though threads seem to run: they are taken as blocked by monitors. */
     static void force() {
         synchronized (GUARD) {
@@ -154,5 +159,8 @@ final class Clock {
             sleepers[kept] = null;
         }
         count = kept;
+        if (kept > 0 && jx.gen.Settings.hasUnseenThreads()) {
+            Parking.callNext(sleepers[0]);
+        }
     }
 }

@@ -9,7 +9,10 @@ package jx;
  */
 final class Parking {
     private static final int NOTIFIED = 1, EXPIRED = 2, INTERRUPTED = 3, HALTED = 4;
-    private static final int PATIENCE = 10000;
+    /** How many rounds without a change mean that nothing changes. */
+    private static final int PATIENCE = 2000;
+    /** As many where the schedule stays with a thread while it can go on: all others go on in each round until they can't. */
+    private static final int SHORT_PATIENCE = 3;
 
     /** The threads that wait, in the order of their arrival. */
     private static Thr[] waiting = new Thr[8];
@@ -21,6 +24,11 @@ final class Parking {
 
     /** Is Object.wait, for at most so many nanoseconds, 0 for no end. */
     static void await(Object o, long nanos) throws InterruptedException {
+        await(o, nanos, null);
+    }
+
+    /** Waits so, and calls the passage, if there is one, where the monitor is free. */
+    static void await(Object o, long nanos, Passage passage) throws InterruptedException {
         if (!jx.gen.Settings.parks()) {
             jx.raw.Wait.on(o);
             return;
@@ -33,7 +41,13 @@ final class Parking {
             throw new InterruptedException();
         }
         int holds = release(o);
+        if (passage != null) {
+            passage.left();
+        }
         block(me);
+        if (passage != null) {
+            passage.returns();
+        }
         while (holds-- > 0) {
             jx.raw.Mon.enter(o);
         }
@@ -220,33 +234,53 @@ final class Parking {
     }
 
     private static void block(Thr me) {
-        if (me.deadline != Clock.FOREVER && jx.gen.Settings.sleepsInMonitor()) {
-            spin(me);
-            return;
+        boolean looks = jx.gen.Settings.hasUnseenThreads() && me.deadline != Clock.FOREVER;
+        while (me.cause == 0) {
+            if (looks && Clock.isNext(me)) {
+                lookAfter(me);
+            } else {
+                waitForChange(me, looks);
+            }
         }
+    }
+
+    /** Waits until the thread is woken, or is the next that waits for a time, where it has to look after the clock then. */
+    private static void waitForChange(Thr me, boolean looks) {
         synchronized (me.parker) {
-            while (me.cause == 0) {
+            while (me.cause == 0 && !(looks && Clock.isNext(me))) {
                 try {
                     jx.raw.Wait.on(me.parker);
-                } catch (InterruptedException e) {
+                } catch (InterruptedException never) {
                     return;
                 }
             }
         }
     }
 
-    /** Waits by turns of its own, since threads that are blocked by a monitor of this one count as running. */
-    private static void spin(Thr me) {
+    /**
+     * Looks after the clock while the thread is the next that waits for a time: threads that are blocked by monitors, or that loop, count
+     * as running. Where nothing changes for long, the clock goes on.
+     */
+    private static void lookAfter(Thr me) {
+        int patience = jx.gen.Settings.stays() ? SHORT_PATIENCE : PATIENCE;
         int rounds = 0;
         int seen = Clock.changes;
-        while (me.cause == 0) {
+        while (me.cause == 0 && Clock.isNext(me)) {
+            Yielding.yield();
             if (seen != Clock.changes) {
                 seen = Clock.changes;
                 rounds = 0;
-            } else if (++rounds >= PATIENCE) {
+            } else if (++rounds >= patience) {
                 rounds = 0;
                 Clock.force();
             }
+        }
+    }
+
+    /** Has a thread look after the clock from now on. The guard is held. */
+    static void callNext(Thr thread) {
+        synchronized (thread.parker) {
+            jx.raw.Wait.notifyEach(thread.parker);
         }
     }
 

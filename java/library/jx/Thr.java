@@ -12,12 +12,18 @@ public class Thr implements Runnable {
 
     public static final int MIN_PRIORITY = 1, NORM_PRIORITY = 5, MAX_PRIORITY = 10;
 
+    private static final int SPINS = 8;
     private static final Object GUARD = new Object();
     private static Thr[] live = new Thr[0];
     private static Thr main;
     private static int number;
     private static int ids;
+    /** How many threads that aren't daemons haven't left. */
     private static int users;
+    /** How many threads have been started and haven't left. */
+    private static int present;
+    /** How often a thread has said that it spins. */
+    private static int spins;
     private static UncaughtExceptionHandler byDefault;
 
     /** Is owned by the thread while it runs. */
@@ -28,6 +34,8 @@ public class Thr implements Runnable {
     final Object permitted = new Object();
     /** What the thread waits for, null where it doesn't. */
     Object waitingOn;
+    /** The lock that the thread is about to enter, where others have to know that. */
+    Object entering;
     /** Why the thread was woken, 0 while it waits. */
     int cause;
     long deadline = Clock.FOREVER;
@@ -122,6 +130,7 @@ public class Thr implements Runnable {
         add(first);
         main = first;
         users = 1;
+        present = 1;
     }
 
     /** Ends the first thread, after main has thrown this, or null. */
@@ -153,6 +162,13 @@ public class Thr implements Runnable {
         }
     }
 
+    /** Counts a thread that leaves, and returns whether it is the last. */
+    private static boolean isLastToLeave() {
+        synchronized (GUARD) {
+            return --present == 0;
+        }
+    }
+
     public static Thr currentThread() {
         return current();
     }
@@ -166,12 +182,23 @@ public class Thr implements Runnable {
             return ((Body) ((jx.raw.Starter) o).body).thread;
         }
         Thr[] all = live;
-        for (int i = all.length - 1; i > 0; i--) {
+        for (int i = all.length - 1; i >= 0; i--) {
             if (jx.raw.Wait.holds(all[i].self)) {
                 return all[i];
             }
         }
         return main;
+    }
+
+    /** Returns whether a thread is about to enter the lock. */
+    static boolean isEntered(Object lock) {
+        Thr[] all = live;
+        for (int i = 0; i < all.length; i++) {
+            if (all[i].entering == lock) {
+                return true;
+            }
+        }
+        return false;
     }
 
     public static int activeCount() {
@@ -226,6 +253,7 @@ public class Thr implements Runnable {
         }
         started = true;
         synchronized (GUARD) {
+            present++;
             if (!daemon) {
                 users++;
             }
@@ -288,6 +316,9 @@ public class Thr implements Runnable {
             Parking.halt();
         }
         Clock.ended();
+        if (isLastToLeave()) {
+            Yielding.end();
+        }
         jx.raw.Mon.exit(self);
     }
 
@@ -453,9 +484,14 @@ public class Thr implements Runnable {
     }
 
     public static void yield() {
+        Yielding.yield();
     }
 
+    /** Lets the others go on now and then: who calls this calls it often. */
     public static void onSpinWait() {
+        if ((++spins & SPINS - 1) == 0) {
+            Yielding.yield();
+        }
     }
 
     public static void sleep(long milliseconds) throws InterruptedException {

@@ -15,8 +15,18 @@ public final class Settings {
         return true;
     }
 
-    /** Returns whether a thread of the program may wait for a time while it owns a monitor. */
-    public static boolean sleepsInMonitor() {
+    /** Returns whether threads may be blocked, or loop until another thread does something, where the library doesn't see it. */
+    public static boolean hasUnseenThreads() {
+        return false;
+    }
+
+    /** Returns whether the program may try a lock, beside taking it. */
+    public static boolean triesLocks() {
+        return true;
+    }
+
+    /** Returns whether the schedule stays with a thread while it can go on. */
+    public static boolean stays() {
         return false;
     }
 }

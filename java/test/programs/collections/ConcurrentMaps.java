@@ -10,8 +10,8 @@ public class ConcurrentMaps {
         }
         System.out.println(m);
         System.out.println(m.size() + " " + m.mappingCount() + " " + m.getOrDefault("zz", -1) + " " + m.putIfAbsent("k7", 0) + " " + m.computeIfAbsent("new", String::length) + " " + m.merge("new", 5, Integer::sum) + " " + m.compute("new", (k, v) -> null) + " " + m.replace("k7", 1, 77) + " " + m.remove("k14", 3) + " " + m.contains(39));
-        System.out.println(m.reduceValues(1, Integer::sum) + " " + m.search(1, (k, v) -> v == 5 ? k : null) + " " + m.reduce(1, (k, v) -> v > 35 ? k : null, (a, b) -> a.compareTo(b) > 0 ? a : b));
-        m.forEach(1, (k, v) -> {
+        System.out.println(m.reduceValues(Long.MAX_VALUE, Integer::sum) + " " + m.search(Long.MAX_VALUE, (k, v) -> v == 5 ? k : null) + " " + m.reduce(Long.MAX_VALUE, (k, v) -> v > 35 ? k : null, (a, b) -> a.compareTo(b) > 0 ? a : b));
+        m.forEach(Long.MAX_VALUE, (k, v) -> {
             if (v > 38) {
                 System.out.println(k + "=" + v);
             }

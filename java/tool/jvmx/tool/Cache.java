@@ -77,7 +77,7 @@ final class Cache {
             throw new IllegalStateException(impossible);
         }
         String settings = System.getProperty("java.home") + " " + System.getProperty("java.vm.version") + " " + words.main + " "
-            + words.hasAssertions + " " + words.hasNatives + " " + words.isAnyway + "\n";
+            + words.hasAssertions + " " + words.hasNatives + " " + words.isStaying() + " " + words.isAnyway + "\n";
         digest.update(settings.getBytes(StandardCharsets.UTF_8));
         for (String part : new String[] { "tool", "library" }) {
             Path jar = home.resolve("java/out/" + part + ".jar");

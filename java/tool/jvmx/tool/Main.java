@@ -18,22 +18,25 @@ public final class Main {
 
     /** Ends with jvmx's exit status, or with that of a refusal. */
     public static void main(String[] given) {
-        int status;
+        int status = call(given);
+        System.out.flush();
+        System.exit(status);
+    }
+
+    /** Runs the tool, and returns the exit status. */
+    public static int call(String[] given) {
         try {
-            status = Help.isAsked(given) ? Help.print() : new Main(Words.read(given)).run();
+            return Help.isAsked(given) ? Help.print() : new Main(Words.read(given)).run();
         } catch (Refusal refusal) {
             System.err.println("jvmx-java: " + refusal.getMessage());
-            status = refusal.status;
+            return refusal.status;
         } catch (IOException failure) {
             System.err.println("jvmx-java: " + failure);
-            status = Refusal.DEVICE;
         } catch (RuntimeException | StackOverflowError | OutOfMemoryError fault) {
             System.err.println("jvmx-java: a fault of the tool, or a JDK whose classes it doesn't know:");
             fault.printStackTrace();
-            status = Refusal.DEVICE;
         }
-        System.out.flush();
-        System.exit(status);
+        return Refusal.DEVICE;
     }
 
     private int run() throws IOException {
@@ -89,7 +92,7 @@ public final class Main {
 
     private Program adaptAll(Inputs inputs) {
         words.main = inputs.main(words.main);
-        Settings settings = new Settings(words.main, words.hasAssertions, words.hasNatives);
+        Settings settings = new Settings(words.main, words.hasAssertions, words.hasNatives, words.isStaying());
         return Program.adapt(settings, inputs.classes(), new Library(home.resolve("java/out/library.jar")));
     }
 

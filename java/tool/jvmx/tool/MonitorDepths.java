@@ -15,6 +15,9 @@ final class MonitorDepths {
     /** More isn't told apart, so that a loop which only takes locks ends. */
     private static final int MOST = 4;
 
+    /** The types by which a lock is named that is a monitor. */
+    private static final String LOCKS = "java/util/concurrent/(locks/(Lock|ReentrantLock)|ConcurrentHashMap)";
+
     private final Map<AbstractInsnNode, Integer> depths = new IdentityHashMap<>();
     private final Deque<AbstractInsnNode> work = new ArrayDeque<>();
     private final MethodNode method;
@@ -66,7 +69,13 @@ final class MonitorDepths {
         if (instruction.getOpcode() == Opcodes.MONITOREXIT) {
             return -1;
         }
-        String name = instruction instanceof MethodInsnNode ? ((MethodInsnNode) instruction).name : "";
-        return name.equals("lock") || name.equals("lockInterruptibly") ? 1 : name.equals("unlock") ? -1 : 0;
+        return instruction instanceof MethodInsnNode ? change((MethodInsnNode) instruction) : 0;
+    }
+
+    private static int change(MethodInsnNode call) {
+        if (!call.owner.matches(LOCKS)) {
+            return 0;
+        }
+        return call.name.matches("lock|lockInterruptibly|tryLock|lockToCompute") ? 1 : call.name.matches("unlock|unlockComputed") ? -1 : 0;
     }
 }

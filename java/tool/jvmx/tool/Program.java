@@ -181,7 +181,7 @@ final class Program {
         if (!stops.isEmpty()) {
             write(stops.make());
         }
-        write(SettingsClass.of(settings.hasAssertions, timed));
+        write(SettingsClass.of(settings, timed, world));
         write(Entry.classOf(settings.main, hasExit()));
         literals.classes().forEach(this::write);
     }

@@ -9,8 +9,12 @@ final class Settings {
     /** Whether the machine has the natives of jvmx/Native. */
     final boolean hasNatives;
 
-    Settings(String main, boolean hasAssertions, boolean hasNatives) {
+    /** Whether the schedule stays with a thread while it can go on. */
+    final boolean isStaying;
+
+    Settings(String main, boolean hasAssertions, boolean hasNatives, boolean isStaying) {
         this.main = main;
+        this.isStaying = isStaying;
         this.hasAssertions = hasAssertions;
         this.hasNatives = hasNatives;
     }

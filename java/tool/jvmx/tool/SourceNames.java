@@ -27,10 +27,9 @@ final class SourceNames extends Remapper {
         if (name.startsWith("jx/ex/")) {
             return "java/lang/" + name.substring("jx/ex/".length());
         }
-        if (name.startsWith("jx/Thr$")) {
-            return "java/lang/Thread$" + name.substring("jx/Thr$".length());
-        }
-        return NAMES.getOrDefault(name, name);
+        int nested = name.indexOf('$');
+        String outer = nested < 0 ? name : name.substring(0, nested);
+        return NAMES.getOrDefault(outer, outer) + name.substring(outer.length());
     }
 
     /** Returns the name of a class in the source. */

@@ -2,17 +2,13 @@ package jvmx.tool;
 
 import java.util.ArrayList;
 import java.util.Collection;
-import java.util.HashSet;
 import java.util.List;
-import java.util.Map;
-import java.util.Set;
-import org.objectweb.asm.Opcodes;
 import org.objectweb.asm.tree.AbstractInsnNode;
 import org.objectweb.asm.tree.MethodInsnNode;
 
 /**
- * Finds whether the caller's code waits for times, interrupts or ends the program, and whether it may do so while it owns
- * a monitor. The library is simpler where it doesn't. To answer yes is always right.
+ * Finds whether the caller's code waits for times, interrupts or ends the program. The library is simpler where it doesn't. To answer
+ * yes is always right.
  */
 final class TimedCalls {
     private static final String TIMED_NAMES = "sleep|interrupt|interrupted|isInterrupted|setDaemon|exit|halt|park.*"
@@ -22,9 +18,8 @@ final class TimedCalls {
         + "|java/util/concurrent/locks/(StampedLock|LockSupport|Abstract.*)";
     private static final String TIMED_FACTORIES = "newCachedThreadPool|newScheduled.*|newWorkStealing.*|newSingleThreadScheduled.*";
 
-    private static final String TIMED_BY_UNIT = "await|poll|offer|get|tryLock|tryAcquire|awaitTermination|exchange|invokeAll"
-        + "|invokeAny|awaitAdvanceInterruptibly|sleep|timedJoin|timedWait|join";
-
+    private final List<ProgramMethod> all = new ArrayList<>();
+    /** Those of the caller's classes. */
     private final List<ProgramMethod> reached = new ArrayList<>();
     /** Whether the JDK's code interrupts threads, as a pool does that is shut down. */
     private boolean isInterrupting;
@@ -33,10 +28,17 @@ final class TimedCalls {
         for (ProgramClass found : classes) {
             for (ProgramMethod method : found.methods.values()) {
                 isInterrupting |= found.origin == Origin.JDK && method.isReached && interrupts(method);
-                if (found.isUser() && method.isReached && method.adapted != null) {
-                    reached.add(method);
+                if (method.isReached && method.adapted != null) {
+                    add(method);
                 }
             }
+        }
+    }
+
+    private void add(ProgramMethod method) {
+        all.add(method);
+        if (method.owner.isUser()) {
+            reached.add(method);
         }
     }
 
@@ -59,68 +61,10 @@ final class TimedCalls {
         return false;
     }
 
-    /** Returns whether a method may wait for a time while it owns a monitor or a lock, itself or in a call. */
-    boolean isAnyInMonitor() {
-        Set<String> waiting = keysOfWaiting();
-        return reached.stream().anyMatch(method -> waitsAsOwner(method, waiting));
-    }
-
-    /** Returns the keys of the methods that wait for a time, themselves or in a call. */
-    private Set<String> keysOfWaiting() {
-        Set<String> waiting = new HashSet<>();
-        boolean isNew = true;
-        while (isNew) {
-            isNew = false;
-            for (ProgramMethod method : reached) {
-                if (!waiting.contains(method.key()) && waits(method, waiting)) {
-                    isNew = waiting.add(method.key());
-                }
-            }
-        }
-        return waiting;
-    }
-
-    private static boolean waits(ProgramMethod method, Set<String> waiting) {
-        for (AbstractInsnNode instruction : method.adapted.instructions) {
-            if (instruction instanceof MethodInsnNode) {
-                MethodInsnNode call = (MethodInsnNode) instruction;
-                if (isWait(call) || isOwnWait(call) || waiting.contains(Names.key(call.name, call.desc))) {
-                    return true;
-                }
-            }
-        }
-        return false;
-    }
-
-    private static boolean waitsAsOwner(ProgramMethod method, Set<String> waiting) {
-        Map<AbstractInsnNode, Integer> depths = null;
-        for (AbstractInsnNode instruction : method.adapted.instructions) {
-            MethodInsnNode call = instruction instanceof MethodInsnNode ? (MethodInsnNode) instruction : null;
-            if (call == null || !isWait(call) && !waiting.contains(Names.key(call.name, call.desc))) {
-                continue;
-            }
-            depths = depths == null ? MonitorDepths.of(method.adapted) : depths;
-            if (method.is(Opcodes.ACC_SYNCHRONIZED) || depths.getOrDefault(instruction, 0) > 0) {
-                return true;
-            }
-        }
-        return false;
-    }
-
-    /** Returns whether a call waits for a time and keeps what monitors the caller owns. */
-    private static boolean isWait(MethodInsnNode call) {
-        if (isOwnWait(call)) {
-            return false;
-        }
-        boolean hasUnit = call.desc.contains("Ljava/util/concurrent/TimeUnit;");
-        return hasUnit && call.name.matches(TIMED_BY_UNIT) || call.name.matches("sleep|timedJoin|timedWait|parkNanos|parkUntil")
-            || call.name.equals("join") && call.desc.startsWith("(J");
-    }
-
-    /** Returns whether a call is a wait for a time that frees the monitor of its object, or its lock. */
-    private static boolean isOwnWait(MethodInsnNode call) {
-        boolean isCondition = call.owner.endsWith("/Condition") && call.name.startsWith("await") && !call.desc.startsWith("()");
-        return isCondition || call.name.equals("await") && call.desc.startsWith("(Ljava/lang/Object;J");
+    /** Returns whether threads may be blocked or loop where the library doesn't see it, so that the clock has to be looked after. */
+    boolean isAnyUnseen(World world) {
+        WaitsOfOwners waits = new WaitsOfOwners(world, all);
+        return waits.isAny() || new SpinLoops(world, waits).isAny(reached);
     }
 
     private boolean isTimed(ProgramMethod method) {

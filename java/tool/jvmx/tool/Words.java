@@ -54,6 +54,16 @@ final class Words {
         return words;
     }
 
+    /** Returns whether the schedules stay with a thread while it can go on. */
+    boolean isStaying() {
+        if (command.equals("explore") || command.equals("shrink")) {
+            return true;
+        }
+        int at = ofMachine.indexOf("--sched");
+        String schedule = at < 0 ? "" : ofMachine.get(at + 1);
+        return schedule.startsWith("stay:") || ofMachine.stream().anyMatch(word -> word.startsWith("--sched=stay:"));
+    }
+
     private int readOne(String[] given, int at) {
         String word = given[at];
         int equals = word.startsWith("--") ? word.indexOf('=') : -1;

@@ -16,19 +16,29 @@ import java.util.function.Consumer;
 import java.util.function.Function;
 
 /**
- * A hash table for many threads, each operation on which holds its one monitor, so that a trace shows it as one step.
+ * A hash table for many threads. A change holds the monitor of its place, also while a function computes the value, and a look holds none.
  *
- * <p>Its order is that of the JDK's table: places by the same hash, chains that a growth turns in the same way.
+ * <p>Its order is that of the JDK's table: places by the same hash, chains that a growth turns in the same way. The table doesn't grow while
+ * a function computes a value.
  */
 public class ConcurrentHashMap<K, V> extends AbstractMap<K, V> implements ConcurrentMap<K, V>, java.io.Serializable {
     private static final int LONG_CHAIN = 8;
     private static final int SMALL_TABLE = 64;
 
+    private final Object counting = new Object();
+    private final Object growing = new Object();
     private Node<K, V>[] table;
+    /** One for each place of the table, null before its first use. */
+    private Bin[] bins;
     private int capacity = 16;
     private int count;
-    /** The thread that computes a value now, and for which key. */
-    private Object computing;
+    private boolean isGrowing;
+
+    /** What a thread owns that changes the chain of a place. */
+    private static final class Bin {
+        /** Whether the owner computes a value. */
+        boolean isComputing;
+    }
 
     /** An entry of a chain. */
     private static final class Node<K, V> {
@@ -79,10 +89,12 @@ public class ConcurrentHashMap<K, V> extends AbstractMap<K, V> implements Concur
 
     private Node<K, V> find(Object key) {
         int hash = spread(key);
-        if (table == null) {
-            return null;
-        }
-        for (Node<K, V> n = table[hash & table.length - 1]; n != null; n = n.next) {
+        Node<K, V>[] places = table;
+        return places == null ? null : find(places[hash & places.length - 1], hash, key);
+    }
+
+    private static <K, V> Node<K, V> find(Node<K, V> chain, int hash, Object key) {
+        for (Node<K, V> n = chain; n != null; n = n.next) {
             if (n.hash == hash && (n.key == key || key.equals(n.key))) {
                 return n;
             }
@@ -90,11 +102,51 @@ public class ConcurrentHashMap<K, V> extends AbstractMap<K, V> implements Concur
         return null;
     }
 
-    private void add(K key, V value) {
-        int hash = spread(key);
-        if (table == null) {
-            table = (Node<K, V>[]) new Node[capacity];
+    /** Owns the place of a hash, and returns what is owned. */
+    private Bin lock(int hash) {
+        while (true) {
+            Bin[] all = bins == null ? makeTable() : bins;
+            Bin bin = all[hash & all.length - 1];
+            if (bin == null) {
+                bin = makeBin(all, hash & all.length - 1);
+            }
+            jx.Parker.enter(bin);
+            if (bins == all) {
+                if (bin.isComputing) {
+                    jx.Parker.exit(bin);
+                    throw new IllegalStateException("Recursive update");
+                }
+                return bin;
+            }
+            jx.Parker.exit(bin);
         }
+    }
+
+    private static void unlock(Bin bin) {
+        jx.Parker.exit(bin);
+    }
+
+    private Bin[] makeTable() {
+        synchronized (counting) {
+            if (bins == null) {
+                table = (Node<K, V>[]) new Node[capacity];
+                bins = new Bin[capacity];
+            }
+            return bins;
+        }
+    }
+
+    private Bin makeBin(Bin[] all, int at) {
+        synchronized (counting) {
+            if (all[at] == null) {
+                all[at] = new Bin();
+            }
+            return all[at];
+        }
+    }
+
+    /** Adds an entry at the end of its chain, whose place is owned, and returns how long the chain was. */
+    private int add(K key, V value, int hash) {
         int at = hash & table.length - 1;
         Node<K, V> added = new Node<K, V>(hash, key, value, null);
         int length = 0;
@@ -107,12 +159,23 @@ public class ConcurrentHashMap<K, V> extends AbstractMap<K, V> implements Concur
             }
             n.next = added;
         }
+        count(1);
+        return length;
+    }
+
+    private void count(int more) {
+        synchronized (counting) {
+            count += more;
+        }
+    }
+
+    /** Grows the table where the chain that got an entry, or all of them, have become long. No place is owned. */
+    private void growAfter(int length) {
         if (length >= LONG_CHAIN && table.length < SMALL_TABLE) {
             reserve(table.length << 1);
         }
-        count++;
-        while (count >= limit() && table.length < 1 << 30) {
-            grow();
+        while (count >= limit() && table.length < 1 << 30 && grow()) {
+            continue;
         }
     }
 
@@ -127,23 +190,48 @@ public class ConcurrentHashMap<K, V> extends AbstractMap<K, V> implements Concur
             capacity = Math.max(capacity, wanted);
             return;
         }
-        while (wanted > limit() && table.length < 1 << 30) {
-            grow();
+        while (wanted > limit() && table.length < 1 << 30 && grow()) {
+            continue;
         }
     }
 
-    private void grow() {
+    /** Doubles the table, where no function computes a value; returns whether it did. */
+    private boolean grow() {
+        synchronized (growing) {
+            isGrowing = true;
+            Bin[] all = bins;
+            boolean isFree = true;
+            for (int i = 0; i < all.length; i++) {
+                isFree &= all[i] == null || !all[i].isComputing;
+            }
+            if (isFree) {
+                growOwned(all);
+            }
+            isGrowing = false;
+            return isFree;
+        }
+    }
+
+    private void growOwned(Bin[] all) {
+        for (int i = 0; i < all.length; i++) {
+            jx.Parker.enter(all[i] == null ? makeBin(all, i) : all[i]);
+        }
         Node<K, V>[] old = table;
-        table = (Node<K, V>[]) new Node[2 * old.length];
+        Node<K, V>[] more = (Node<K, V>[]) new Node[2 * old.length];
         for (int i = 0; i < old.length; i++) {
             if (old[i] != null) {
-                split(old[i], i, old.length);
+                split(more, old[i], i, old.length);
             }
+        }
+        table = more;
+        bins = new Bin[more.length];
+        for (int i = 0; i < all.length; i++) {
+            jx.Parker.exit(all[i]);
         }
     }
 
     /** Spreads a chain over two places: its last run stays a chain, the entries before it are put in front one by one. */
-    private void split(Node<K, V> chain, int at, int bit) {
+    private void split(Node<K, V>[] more, Node<K, V> chain, int at, int bit) {
         Node<K, V> run = chain;
         for (Node<K, V> n = chain.next; n != null; n = n.next) {
             if ((n.hash & bit) != (run.hash & bit)) {
@@ -159,8 +247,8 @@ public class ConcurrentHashMap<K, V> extends AbstractMap<K, V> implements Concur
                 high = new Node<K, V>(n.hash, n.key, n.value, high);
             }
         }
-        table[at] = low;
-        table[at + bit] = high;
+        more[at] = low;
+        more[at + bit] = high;
     }
 
     private void unlink(Node<K, V> gone) {
@@ -174,13 +262,13 @@ public class ConcurrentHashMap<K, V> extends AbstractMap<K, V> implements Concur
             }
             n.next = gone.next;
         }
-        count--;
+        count(-1);
     }
 
     // ---- Map
 
     @Override
-    public synchronized int size() {
+    public int size() {
         return count;
     }
 
@@ -194,7 +282,7 @@ public class ConcurrentHashMap<K, V> extends AbstractMap<K, V> implements Concur
     }
 
     @Override
-    public synchronized V get(Object key) {
+    public V get(Object key) {
         Node<K, V> n = find(key);
         return n == null ? null : n.value;
     }
@@ -232,31 +320,39 @@ public class ConcurrentHashMap<K, V> extends AbstractMap<K, V> implements Concur
     }
 
     @Override
-    public synchronized V put(K key, V value) {
-        present(key, value);
-        Node<K, V> n = find(key);
-        if (n == null) {
-            add(key, value);
-            return null;
-        }
-        V old = n.value;
-        n.value = value;
-        return old;
+    public V put(K key, V value) {
+        return put(key, value, true);
     }
 
     @Override
-    public synchronized V putIfAbsent(K key, V value) {
+    public V putIfAbsent(K key, V value) {
+        return put(key, value, false);
+    }
+
+    private V put(K key, V value, boolean replaces) {
         present(key, value);
-        Node<K, V> n = find(key);
-        if (n == null) {
-            add(key, value);
-            return null;
+        int hash = spread(key);
+        int length;
+        Bin bin = lock(hash);
+        try {
+            Node<K, V> n = find(key);
+            if (n != null) {
+                V old = n.value;
+                if (replaces) {
+                    n.value = value;
+                }
+                return old;
+            }
+            length = add(key, value, hash);
+        } finally {
+            unlock(bin);
         }
-        return n.value;
+        growAfter(length);
+        return null;
     }
 
     @Override
-    public synchronized void putAll(Map<? extends K, ? extends V> m) {
+    public void putAll(Map<? extends K, ? extends V> m) {
         reserve(m.size());
         for (Map.Entry<? extends K, ? extends V> e : m.entrySet()) {
             put(e.getKey(), e.getValue());
@@ -264,134 +360,167 @@ public class ConcurrentHashMap<K, V> extends AbstractMap<K, V> implements Concur
     }
 
     @Override
-    public synchronized V remove(Object key) {
-        Node<K, V> n = find(key);
-        if (n == null) {
-            return null;
-        }
-        unlink(n);
-        return n.value;
+    public V remove(Object key) {
+        return change(key, null, null);
     }
 
     @Override
-    public synchronized boolean remove(Object key, Object value) {
-        Node<K, V> n = find(key);
-        if (n == null || !n.value.equals(value)) {
-            return false;
-        }
-        unlink(n);
-        return true;
+    public boolean remove(Object key, Object value) {
+        Objects.requireNonNull(key);
+        return value != null && change(key, value, null) != null;
     }
 
     @Override
-    public synchronized boolean replace(K key, V old, V value) {
+    public boolean replace(K key, V old, V value) {
         present(old, value);
-        Node<K, V> n = find(key);
-        if (n == null || !n.value.equals(old)) {
-            return false;
-        }
-        n.value = value;
-        return true;
+        return change(key, old, value) != null;
     }
 
     @Override
-    public synchronized V replace(K key, V value) {
+    public V replace(K key, V value) {
         present(key, value);
-        Node<K, V> n = find(key);
-        if (n == null) {
-            return null;
+        return change(key, null, value);
+    }
+
+    /** Gives an entry another value, or removes it where that is null, if it has the expected value or any; returns the old one. */
+    private V change(Object key, Object expected, V value) {
+        int hash = spread(key);
+        Bin bin = lock(hash);
+        try {
+            Node<K, V> n = find(key);
+            if (n == null || expected != null && !expected.equals(n.value)) {
+                return null;
+            }
+            V old = n.value;
+            if (value == null) {
+                unlink(n);
+            } else {
+                n.value = value;
+            }
+            return old;
+        } finally {
+            unlock(bin);
         }
-        V old = n.value;
-        n.value = value;
-        return old;
     }
 
     @Override
-    public synchronized void clear() {
-        if (table != null) {
-            for (int i = 0; i < table.length; i++) {
-                table[i] = null;
+    public void clear() {
+        for (int i = 0; bins != null && i < table.length; i++) {
+            Bin bin = lock(i);
+            try {
+                for (Node<K, V> n = table[i]; n != null; n = n.next) {
+                    unlink(n);
+                }
+            } finally {
+                unlock(bin);
             }
         }
-        count = 0;
     }
 
     // ---- computed values
 
-    private void begin() {
-        if (computing != null) {
-            throw new IllegalStateException("Recursive update");
+    /** Owns the place of a hash, and says that a function computes there; the table doesn't grow until it has. */
+    private Bin lockToCompute(int hash) {
+        while (true) {
+            Bin bin = lock(hash);
+            bin.isComputing = true;
+            if (!isGrowing) {
+                return bin;
+            }
+            unlockComputed(bin);
+            synchronized (growing) {
+                continue;
+            }
         }
-        computing = this;
     }
 
-    private V store(Node<K, V> n, K key, V value) {
+    private static void unlockComputed(Bin bin) {
+        bin.isComputing = false;
+        unlock(bin);
+    }
+
+    /** Gives the entry, or a new one, the computed value, or removes it where that is null; returns the length of the chain that grew. */
+    private int store(Node<K, V> n, K key, V value, int hash) {
         if (value == null) {
             if (n != null) {
                 unlink(n);
             }
         } else if (n == null) {
-            add(key, value);
+            return add(key, value, hash);
         } else {
             n.value = value;
         }
+        return 0;
+    }
+
+    @Override
+    public V computeIfAbsent(K key, Function<? super K, ? extends V> function) {
+        present(key, function);
+        int hash = spread(key);
+        V value;
+        int length;
+        Bin lock = lockToCompute(hash);
+        try {
+            Node<K, V> n = find(key);
+            if (n != null) {
+                return n.value;
+            }
+            value = function.apply(key);
+            length = store(null, key, value, hash);
+        } finally {
+            unlockComputed(lock);
+        }
+        growAfter(length);
         return value;
     }
 
     @Override
-    public synchronized V computeIfAbsent(K key, Function<? super K, ? extends V> function) {
-        present(key, function);
-        Node<K, V> n = find(key);
-        if (n != null) {
-            return n.value;
-        }
-        V value;
-        begin();
-        try {
-            value = function.apply(key);
-        } finally {
-            computing = null;
-        }
-        return store(null, key, value);
+    public V computeIfPresent(K key, BiFunction<? super K, ? super V, ? extends V> function) {
+        return compute(key, function, false);
     }
 
     @Override
-    public synchronized V computeIfPresent(K key, BiFunction<? super K, ? super V, ? extends V> function) {
-        present(key, function);
-        return find(key) == null ? null : compute(key, function);
+    public V compute(K key, BiFunction<? super K, ? super V, ? extends V> function) {
+        return compute(key, function, true);
     }
 
-    @Override
-    public synchronized V compute(K key, BiFunction<? super K, ? super V, ? extends V> function) {
+    private V compute(K key, BiFunction<? super K, ? super V, ? extends V> function, boolean adds) {
         present(key, function);
-        Node<K, V> n = find(key);
+        int hash = spread(key);
         V value;
-        begin();
+        int length;
+        Bin lock = lockToCompute(hash);
         try {
+            Node<K, V> n = find(key);
+            if (n == null && !adds) {
+                return null;
+            }
             value = function.apply(key, n == null ? null : n.value);
+            length = store(n, key, value, hash);
         } finally {
-            computing = null;
+            unlockComputed(lock);
         }
-        return store(n, key, value);
+        growAfter(length);
+        return value;
     }
 
     @Override
-    public synchronized V merge(K key, V value, BiFunction<? super V, ? super V, ? extends V> function) {
+    public V merge(K key, V value, BiFunction<? super V, ? super V, ? extends V> function) {
         present(key, value);
         Objects.requireNonNull(function);
-        Node<K, V> n = find(key);
-        if (n == null) {
-            add(key, value);
-            return value;
-        }
+        int hash = spread(key);
         V merged;
-        begin();
+        int length;
+        Bin lock = lockToCompute(hash);
         try {
-            merged = function.apply(n.value, value);
+            Node<K, V> n = find(key);
+            merged = n == null ? value : function.apply(n.value, value);
+            length = store(n, key, merged, hash);
         } finally {
-            computing = null;
+            unlockComputed(lock);
         }
-        return store(n, key, merged);
+        growAfter(length);
+        return merged;
     }
 
     @Override
@@ -507,10 +636,8 @@ public class ConcurrentHashMap<K, V> extends AbstractMap<K, V> implements Concur
         private Node<K, V> last;
 
         Entries() {
-            synchronized (ConcurrentHashMap.this) {
-                chains = table;
-                step();
-            }
+            chains = table;
+            step();
         }
 
         private void step() {
@@ -530,11 +657,9 @@ public class ConcurrentHashMap<K, V> extends AbstractMap<K, V> implements Concur
             if (next == null) {
                 throw new NoSuchElementException();
             }
-            synchronized (ConcurrentHashMap.this) {
-                last = next;
-                step();
-                return new Entry<K, V>(ConcurrentHashMap.this, last.key, last.value);
-            }
+            last = next;
+            step();
+            return new Entry<K, V>(ConcurrentHashMap.this, last.key, last.value);
         }
 
         public void remove() {

@@ -1,12 +1,20 @@
 package java.util.concurrent;
 
-/** Permits that threads take and give back; a thread that waits is overtaken by none where it is fair. */
+/**
+ * Permits that threads take and give back. Those who wait are served in the order of their arrival; only where the semaphore isn't fair
+ * a thread that comes while there are enough permits overtakes them.
+ */
 public class Semaphore implements java.io.Serializable {
     private final boolean fair;
     private int permits;
-    private int nextTicket;
-    private int served;
     private int waiting;
+    private Waiter first;
+    private Waiter last;
+
+    /** One who waits. */
+    private static final class Waiter {
+        Waiter next;
+    }
 
     public Semaphore(int permits) {
         this(permits, false);
@@ -44,11 +52,10 @@ public class Semaphore implements java.io.Serializable {
 
     /** Waits until there are so many permits, and returns whether there are before the time is over. */
     private boolean await(int count, long nanos, boolean timed) throws InterruptedException {
-        int ticket = nextTicket++;
+        Waiter me = join();
         long left = nanos;
-        waiting++;
         try {
-            while (permits < count || fair && ticket != served) {
+            while (first != me || permits < count) {
                 if (timed && left <= 0) {
                     return false;
                 }
@@ -60,10 +67,37 @@ public class Semaphore implements java.io.Serializable {
             }
             return true;
         } finally {
-            waiting--;
-            served++;
+            leave(me);
             notifyAll();
         }
+    }
+
+    private Waiter join() {
+        Waiter me = new Waiter();
+        if (last == null) {
+            first = me;
+        } else {
+            last.next = me;
+        }
+        last = me;
+        waiting++;
+        return me;
+    }
+
+    private void leave(Waiter me) {
+        Waiter before = null;
+        for (Waiter w = first; w != me; w = w.next) {
+            before = w;
+        }
+        if (before == null) {
+            first = me.next;
+        } else {
+            before.next = me.next;
+        }
+        if (last == me) {
+            last = before;
+        }
+        waiting--;
     }
 
     public void acquireUninterruptibly() {

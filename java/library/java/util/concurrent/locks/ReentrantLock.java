@@ -5,12 +5,19 @@ import java.util.concurrent.TimeUnit;
 /**
  * A lock that is a monitor of the machine, so that a trace has one acquisition, one release, and nothing of a thread that waits.
  *
- * <p>Only who may stop waiting for the lock, by an interrupt or a time, waits on a gate beside it.
+ * <p>Who may stop waiting for the lock, by an interrupt or a time, tries the monitor, and waits on a gate beside it until it is freed. The
+ * machine may lack the means to try a monitor. A thread then says that it enters before it does, and one that tries asks for the owner
+ * and for those who enter: it takes the monitor only if there is nobody. What it asks for can't change meanwhile, since a thread that
+ * says that it enters lets it finish first.
  */
 public class ReentrantLock implements Lock, java.io.Serializable {
     private final Object monitor = new Object();
     private final Object gate = new Object();
+    /** Is owned by a thread that tries the lock. */
+    private final Object trial = new Object();
+    private final Passage passage = new Passage(this);
     private final boolean fair;
+    private boolean isTried;
     private Thread owner;
     private int holds;
     private int atGate;
@@ -23,16 +30,34 @@ public class ReentrantLock implements Lock, java.io.Serializable {
         this.fair = fair;
     }
 
-    private void own() {
+    private void own(Thread me) {
         if (holds++ == 0) {
-            owner = Thread.currentThread();
+            owner = me;
         }
     }
 
     @Override
     public void lock() {
+        Thread me = Thread.currentThread();
+        if (!jx.Parker.needsNotice() || owner == me) {
+            jx.Parker.enter(monitor);
+            own(me);
+            return;
+        }
+        giveNotice(me);
         jx.Parker.enter(monitor);
-        own();
+        own(me);
+        jx.Parker.setEntering(me, null);
+    }
+
+    /** Says that a thread enters the monitor, and lets a thread that tries it finish. */
+    private void giveNotice(Thread enters) {
+        jx.Parker.setEntering(enters, this);
+        if (isTried) {
+            synchronized (trial) {
+                return;
+            }
+        }
     }
 
     @Override
@@ -45,37 +70,69 @@ public class ReentrantLock implements Lock, java.io.Serializable {
             owner = null;
         }
         jx.Parker.exit(monitor);
-        if (free && atGate > 0) {
+        if (free) {
+            openGate();
+        }
+    }
+
+    /** Wakes those who wait at the gate; the monitor is free by then. */
+    private void openGate() {
+        if (atGate > 0) {
             synchronized (gate) {
                 jx.Parker.wakeAll(gate);
             }
         }
     }
 
-    /** Takes the lock if it is free. Where the machine can't try, a thread that takes it at the same moment is waited for. */
     @Override
     public boolean tryLock() {
+        return attempt();
+    }
+
+    private boolean attempt() {
+        Thread me = Thread.currentThread();
         if (jx.Parker.canTry()) {
             if (!jx.Parker.tryEnter(monitor)) {
                 return false;
             }
-        } else {
-            Thread now = owner;
-            if (now != null && now != Thread.currentThread()) {
-                return false;
-            }
-            jx.Parker.enter(monitor);
+            own(me);
+            return true;
         }
-        own();
-        return true;
+        if (owner == me) {
+            jx.Parker.enter(monitor);
+            own(me);
+            return true;
+        }
+        return owner == null && takeIfFree(me);
+    }
+
+    /**
+     * Takes the monitor where nobody owns or enters it, and returns whether it did. Waits at most until an owner has left. Who enters is
+     * asked for first, since a thread that enters is the owner before it no longer says so.
+     */
+    private boolean takeIfFree(Thread me) {
+        synchronized (trial) {
+            isTried = true;
+            boolean free = !jx.Parker.isEntered(this) && owner == null;
+            if (free) {
+                jx.Parker.enter(monitor);
+                own(me);
+            }
+            isTried = false;
+            return free;
+        }
     }
 
     @Override
     public void lockInterruptibly() throws InterruptedException {
+        if (!jx.Parker.parks()) {
+            lock();
+            return;
+        }
         if (Thread.interrupted()) {
             throw new InterruptedException();
         }
-        while (!tryLock()) {
+        if (!attempt()) {
             waitAtGate(0, false);
         }
     }
@@ -85,34 +142,29 @@ public class ReentrantLock implements Lock, java.io.Serializable {
         if (Thread.interrupted()) {
             throw new InterruptedException();
         }
-        long left = unit.toNanos(time);
-        while (!tryLock()) {
-            if (left <= 0) {
-                return false;
-            }
-            left = waitAtGate(left, true);
-        }
-        return true;
+        return attempt() || waitAtGate(unit.toNanos(time), true);
     }
 
-    /** Waits while the lock has an owner; returns the nanoseconds that are left. The monitor isn't entered here, whose owner opens the gate. */
-    private long waitAtGate(long nanos, boolean timed) throws InterruptedException {
+    /** Tries the lock whenever it was freed, until it is taken or the time is over; returns whether it is taken. */
+    private boolean waitAtGate(long nanos, boolean timed) throws InterruptedException {
         long left = nanos;
         synchronized (gate) {
             atGate++;
             try {
-                while (owner != null && (!timed || left > 0)) {
-                    if (timed) {
+                while (!attempt()) {
+                    if (!timed) {
+                        jx.Parker.await(gate);
+                    } else if (left > 0) {
                         left = jx.Parker.await(gate, left);
                     } else {
-                        jx.Parker.await(gate);
+                        return false;
                     }
                 }
+                return true;
             } finally {
                 atGate--;
             }
         }
-        return left;
     }
 
     public boolean isLocked() {
@@ -171,8 +223,13 @@ public class ReentrantLock implements Lock, java.io.Serializable {
 
         /** One who waits. */
         private static final class Waiter {
+            final Thread thread;
             boolean signalled;
             Waiter next;
+
+            Waiter(Thread thread) {
+                this.thread = thread;
+            }
         }
 
         Waiters(ReentrantLock lock) {
@@ -193,8 +250,8 @@ public class ReentrantLock implements Lock, java.io.Serializable {
             }
         }
 
-        private Waiter join() {
-            Waiter w = new Waiter();
+        private Waiter join(Thread thread) {
+            Waiter w = new Waiter(thread);
             if (last == null) {
                 first = w;
             } else {
@@ -225,20 +282,22 @@ public class ReentrantLock implements Lock, java.io.Serializable {
             if (Thread.interrupted()) {
                 throw new InterruptedException();
             }
-            Waiter w = join();
-            int holds = lock.holds;
             Thread owner = lock.owner;
+            Waiter w = join(owner);
+            int holds = lock.holds;
             long left = nanos;
             try {
                 while (!w.signalled && (!timed || left > 0)) {
                     lock.holds = 0;
                     lock.owner = null;
-                    lock.openGate();
                     left = wait(left, timed);
                 }
             } finally {
                 lock.holds = holds;
                 lock.owner = owner;
+                if (jx.Parker.needsNotice()) {
+                    jx.Parker.setEntering(owner, null);
+                }
                 if (!w.signalled) {
                     leave(w);
                 }
@@ -248,9 +307,9 @@ public class ReentrantLock implements Lock, java.io.Serializable {
 
         private long wait(long left, boolean timed) throws InterruptedException {
             if (timed) {
-                return jx.Parker.await(lock.monitor, left);
+                return jx.Parker.await(lock.monitor, left, lock.passage);
             }
-            jx.Parker.await(lock.monitor);
+            jx.Parker.await(lock.monitor, lock.passage);
             return 0;
         }
 
@@ -293,6 +352,9 @@ public class ReentrantLock implements Lock, java.io.Serializable {
 
         private void signalFirst() {
             first.signalled = true;
+            if (jx.Parker.needsNotice()) {
+                jx.Parker.setEntering(first.thread, lock);
+            }
             first = first.next;
             if (first == null) {
                 last = null;
@@ -320,11 +382,23 @@ public class ReentrantLock implements Lock, java.io.Serializable {
         }
     }
 
-    /** Wakes who waits at the gate, before the lock is freed by a wait. */
-    private void openGate() {
-        if (atGate > 0) {
-            synchronized (gate) {
-                jx.Parker.wakeAll(gate);
+    /** What comes before and after a wait of an owner. */
+    private static final class Passage extends jx.Passage {
+        private final ReentrantLock lock;
+
+        Passage(ReentrantLock lock) {
+            this.lock = lock;
+        }
+
+        @Override
+        public void left() {
+            lock.openGate();
+        }
+
+        @Override
+        public void returns() {
+            if (jx.Parker.needsNotice()) {
+                lock.giveNotice(Thread.currentThread());
             }
         }
     }
