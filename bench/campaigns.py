@@ -1,8 +1,8 @@
 #!/usr/bin/env python3
 """Runs campaigns of seeded random programs, and compares each table with the lines that `jvmx run` gives, a run a job. The
 table has to be the same with 1, 3 and 64 workers, and to end with the first job that has a cycle if there is `--stop`. The
-exit status has to be 1 exactly if a job of the table has a cycle or isn't Finished. The first difference ends the script
-with an error, which shows the program.
+exit status has to be 1 exactly if a job of the table has a cycle or isn't Finished. Half of the campaigns choose by
+priorities, `--pct D`. The first difference ends the script with an error, which shows the program.
 
     bench/campaigns.py [--jvmx PROGRAM] [--programs N] [--seed S]
 
@@ -234,6 +234,8 @@ class Campaign:
         static = ["--entry=P.go.(I)V", f"--args={numbers.randrange(-1, 2)}"]
         entry = numbers.choice([["--entry=P"], ["--entry=P"], static])
         self.words = [*entry, *most, f"--spec={folder}/spec", f"{folder}/P.j", f"{folder}/Q.j"]
+        # The depth of priorities, or 0 for choices at random.
+        self.depth = numbers.choice([0, 0, 0, 0, 1, 2, 3, 64])
         self.shown = "".join(f"{name}:\n{text}" for name, text in files.items())
 
     def ran(self, command, *options):
@@ -250,13 +252,20 @@ class Campaign:
         differs = f"{shlex.join(words)}\ngives  {given!r}\nwanted {wanted!r}\nto see it again: {again}"
         return Difference(self.shown + differs)
 
-    def run(self, job):
-        """Runs a job alone. Returns what `run` wrote to standard error, by parts."""
-        words, ended = self.ran("run", f"--sched=seed:{self.seed}:{job}")
+    def run(self, schedule):
+        """Runs the program under a schedule. Returns what `run` wrote to standard error, by parts."""
+        words, ended = self.ran("run", f"--sched={schedule}")
         wrote = RUN.fullmatch(ended[2])
         if not wrote or ended[0] not in (0, 1) or wrote["status"] not in STATUSES:
             raise self.difference(words, ended, "a status and a verdict")
         return wrote
+
+    def schedules(self):
+        """Lists the schedules of all jobs."""
+        if not self.depth:
+            return [f"seed:{self.seed}:{job}" for job in range(self.jobs)]
+        turns = max(1, int(self.run("stay:")["turns"]))
+        return [f"pct:{self.seed}:{job}:{self.depth}:{turns}" for job in range(self.jobs)]
 
     def compare(self, runs, stop):
         """Compares the tables of all numbers of workers with what runs gave."""
@@ -269,7 +278,8 @@ class Campaign:
         ]
         table = "".join([*lines, f"jobs {len(shown)} atomic {len(shown) - count} cycle {count}\n"])
         status = 1 if count or any(ran["status"] != "Finished" for ran in shown) else 0
-        options = [f"--jobs={self.jobs}", f"--seed={self.seed}", *["--stop"] * stop]
+        depth = [f"--pct={self.depth}"] if self.depth else []
+        options = [f"--jobs={self.jobs}", f"--seed={self.seed}", *depth, *["--stop"] * stop]
         for workers in WORKERS:
             words, ended = self.ran("campaign", *options, f"--workers={workers}")
             if ended != (status, table, ""):
@@ -280,7 +290,7 @@ def compared(jvmx, number):
     """Compares the campaigns of a program. Returns counts of what its jobs were."""
     with tempfile.TemporaryDirectory() as folder:
         campaign = Campaign(jvmx, number, Path(folder))
-        runs = [campaign.run(job) for job in range(campaign.jobs)]
+        runs = [campaign.run(schedule) for schedule in campaign.schedules()]
         for stop in (False, True):
             campaign.compare(runs, stop)
     counts = Counter(ran["status"] for ran in runs)

@@ -59,6 +59,7 @@ def commands(folder):
         "run --spec, a cycle": run,
         "run --spec, atomic": [*run, "--sched", "rr:99"],
         "campaign": ["campaign", *run[1:], "--jobs", "4", "--workers", "1"],
+        "explore": ["explore", *run[1:], "--workers", "1"],
         "trace": ["trace", "--entry", "LostUpdate", "--sched", "seed:1:2", source],
         "debug": ["debug", "--entry", "LostUpdate", source],
         "eval": ["eval", *gcd],
@@ -78,6 +79,7 @@ REFUSABLE = {
     "judgements": ("words", "inputs", "file", "Spec::read", "judge", "trace"),
     "sessions": (*INPUTS, "read", "arguments", "script", "Session::new", "command", "answer"),
     "campaigns": (*INPUTS, "read", "Spec::read", "run_campaign", "table_text"),
+    "explorations": (*INPUTS, "read", "Spec::read", "explore", "answer_text", "shrink", "schedule_text"),
 }
 
 
@@ -103,4 +105,5 @@ def calls():
         "session": calls_of("sessions"),
         "campaign of 4 jobs, 1 worker": calls_of("campaigns"),
         "campaign of 2 jobs, 2 workers": calls_of("campaigns", ["2", "2", "atomic LostUpdate.inc", *lost_update]),
+        "exploration of 2 departures, 1 worker": calls_of("explorations"),
     }

@@ -5,21 +5,23 @@
 _jvmx() {
     local word=${COMP_WORDS[COMP_CWORD]} words
     if ((COMP_CWORD == 1)); then
-        words='eval run trace debug campaign check picture asm list tables needs help --help --version'
+        words='eval run trace debug campaign explore shrink check picture asm list tables needs help --help --version'
     else
         case ${COMP_WORDS[1]} in
             eval) words='--entry --args --help' ;;
             run) words='--entry --args --sched --max --spec --explain --help' ;;
             trace) words='--entry --args --sched --max --choices --help' ;;
             debug) words='--entry --args --sched --max --help' ;;
-            campaign) words='--entry --args --spec --jobs --first --seed --workers --max --stop --summary --help' ;;
+            campaign) words='--entry --args --spec --jobs --first --seed --pct --workers --max --stop --summary --help' ;;
+            explore) words='--entry --args --spec --departures --within --runs --max --workers --all --summary --help' ;;
+            shrink) words='--entry --args --sched --spec --max --runs --summary --help' ;;
             check) words='--spec --serial --explain --help' ;;
             picture) words='--spec --dot --help' ;;
             asm) words='--help' ;;
             list) words='--help' ;;
             tables) words='--help' ;;
             needs) words='--spec --help' ;;
-            help) words='eval run trace debug campaign check picture asm list tables needs' ;;
+            help) words='eval run trace debug campaign explore shrink check picture asm list tables needs' ;;
         esac
         [[ $word == -* || ${COMP_WORDS[1]} == help ]] || words=
     fi

@@ -2,6 +2,7 @@
 use Rattle.std.specs.Prelude.{ℕ, ◌+◌, List, [], cond, false, is_ok, Result}
 use Rattle.jvms_program.specs.declared.program.Class.{Class}
 use Rattle.jvms_machine.specs.declared.machine.Entry.TheVariants as entry
+use Rattle.campaign_jobs.specs.declared.choosing.Choosing.TheVariants as choosing
 use Rattle.campaign_jobs.specs.declared.plan.Plan.{Plan}
 use Rattle.campaign_book.specs.declared.fault.StoreFault.{StoreFault}
 use Rattle.campaign_book.specs.declared.row.Row.{Row}
@@ -30,6 +31,7 @@ no_plan =
       jobs = 0;
       first = 0;
       seed = 0;
+      choosing = choosing.Random;
       most = 0;
       spec = [];
       stop = false;

@@ -13,7 +13,7 @@ mod worker;
 pub use audits::audit;
 pub use campaign_book::{Book, BookEntry, Row, StoreFault, Totals};
 pub use campaign_desk::{Claim, Desk, DeskFault, Seat};
-pub use campaign_jobs::{Atomicity, JobResult, Plan, Report, run_job, serial_of};
+pub use campaign_jobs::{Atomicity, Choosing, JobResult, Plan, Report, run_job, serial_of};
 pub use gate::{Gate, OpenGate};
 pub use halt::Halted;
 pub use run::run_campaign;

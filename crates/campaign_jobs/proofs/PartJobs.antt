@@ -5,10 +5,9 @@ use Rattle.jvms_file.specs.Results.{◌>>=◌}
 use Rattle.jvms_program.specs.declared.program.Class.{Class}
 use Rattle.jvms_machine.specs.Opening.{start_of_entry}
 use Rattle.machine.specs.Started.{opened_machine}
-use Rattle.schedule.specs.Choosers.{generator_of}
 use Rattle.program_runs.specs.Shown.{view_of_choices}
 use Rattle.campaign_jobs.specs.declared.plan.Plan.{Plan}
-use Rattle.campaign_jobs.specs.Choices.{job_choices}
+use Rattle.campaign_jobs.specs.Choices.{choices_by}
 use Rattle.campaign_jobs.specs.Plans.{part_of, stream_of}
 use Rattle.campaign_jobs.specs.Reports.{job_shown}
 
@@ -21,5 +20,5 @@ pub same_job : (program : List Class) (plan : Plan) (begin jobs number : ℕ) �
 unfolding job_shown
 same_job program plan begin jobs number =
     ap (λ stream. start_of_entry program plan.limits plan.entry >>= λ start. Ok (
-    let m = opened_machine program plan.limits start in view_of_choices m (job_choices plan.most (generator_of plan.seed stream) m)
+    let m = opened_machine program plan.limits start in view_of_choices m (choices_by plan.choosing plan.most plan.seed stream m)
     )) (same_stream plan begin jobs number)

@@ -1,10 +1,14 @@
--- Defines the choices that a job makes.
+-- Defines the choices that a job makes: at random at each turn, or by random priorities.
 use Rattle.std.specs.Prelude.{ℕ, zero, suc, ◌%◌, List, [], ◌∷◌, length, slice_index_or}
 use Rattle.rand_pcg.specs.Lcg.{Lcg}
 use Rattle.rand_pcg.specs.Pcg.{pcg32}
 use Rattle.machine.specs.Machine.{Machine}
+use Rattle.schedule.specs.Choosers.{chooser_of_schedule, generator_of}
 use Rattle.schedule.specs.Enabled.{enabled_threads}
-use Rattle.runs.specs.Choices.{after_turn}
+use Rattle.schedule.specs.Schedules.{Ranked}
+use Rattle.runs.specs.Choices.{after_turn, choices_from}
+use Rattle.campaign_jobs.specs.declared.choosing.Choosing.{Choosing}
+use Rattle.campaign_jobs.specs.declared.choosing.Choosing.TheVariants as choosing
 
 -- Returns the thread of a list at the index of the generator's next word, modulo the length of the list.
 abbrev pub thread_at : List ℕ → Lcg → ℕ
@@ -22,3 +26,10 @@ unfoldable pub job_choices : ℕ → Lcg → Machine → List ℕ
 job_choices zero generator m = []
 job_choices (suc most) generator m =
     chosen_then (enabled_threads m) generator (λ t. job_choices most (pcg32 generator).1 (after_turn m t))
+
+-- Returns the choices of a run from a machine on, up to a maximum number. Its random words have this state and this
+-- stream. They name the threads, or the priorities and the changes of the schedule `pct:`.
+abbrev pub choices_by : Choosing → ℕ → ℕ → ℕ → Machine → List ℕ
+choices_by choosing.Random most state stream m = job_choices most (generator_of state stream) m
+choices_by (choosing.Priorities depth turns) most state stream m =
+    choices_from most (chooser_of_schedule (Ranked state stream depth turns)) m

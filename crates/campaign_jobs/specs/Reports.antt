@@ -5,7 +5,6 @@ use Rattle.jvms_program.specs.declared.program.Class.{Class}
 use Rattle.jvms_machine.specs.Opening.{StartFault, start_of_entry}
 use Rattle.jvms_machine.specs.Start.{Start}
 use Rattle.machine.specs.Started.{opened_machine}
-use Rattle.schedule.specs.Choosers.{generator_of}
 use Rattle.velodrome.specs.Cycles.{AreAtomic, IsCycle}
 use Rattle.velodrome.specs.Rearrangements.{IsRearrangement, IsSerial}
 use Rattle.velodrome.specs.Specification.{Specification}
@@ -14,14 +13,16 @@ use Rattle.program_runs.specs.Shown.{Shown, view_of_choices}
 use Rattle.campaign_jobs.specs.declared.plan.Plan.{Plan}
 use Rattle.campaign_jobs.specs.declared.result.JobResult.{JobResult}
 use Rattle.campaign_jobs.specs.Atomicities.{IsAtomicityOf}
-use Rattle.campaign_jobs.specs.Choices.{job_choices}
+use Rattle.campaign_jobs.specs.Choices.{choices_by}
 use Rattle.campaign_jobs.specs.Plans.{stream_of}
 
 -- Returns what the run of a job shows, from where the entry starts. The generator of its random words has the
--- plan's seed as its state. Its stream is the job's number, counted from the plan's first stream.
+-- plan's seed as its state. Its stream is the job's number, counted from the plan's first stream. The plan says whether
+-- the words name the threads or their priorities.
 abbrev pub job_from : List Class → Plan → ℕ → Start → Shown
 job_from program plan number start =
-    let m = opened_machine program plan.limits start in view_of_choices m (job_choices plan.most (generator_of plan.seed (stream_of plan number)) m)
+    let m = opened_machine program plan.limits start in
+    view_of_choices m (choices_by plan.choosing plan.most plan.seed (stream_of plan number) m)
 
 -- Returns what the run of a job shows, or why no machine is made for it.
 unfoldable pub job_shown : List Class → Plan → ℕ → Result Shown StartFault

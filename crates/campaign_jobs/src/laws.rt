@@ -5,11 +5,12 @@ ghost use Rattle.jvms_program.specs.declared.program.Class.{Class};
 ghost use Rattle.machine.specs.Machine.{Machine};
 ghost use Rattle.runs.specs.Choices.{choices_from};
 ghost use Rattle.schedule.specs.Choosers.{generator_of, chooser_of_schedule};
-ghost use Rattle.schedule.specs.Schedules.{Seeded};
+ghost use Rattle.schedule.specs.Schedules.{Ranked, Seeded};
+ghost use Rattle.campaign_jobs.specs.declared.choosing.Choosing.TheVariants.{Priorities};
 ghost use Rattle.campaign_jobs.specs.declared.plan.Plan.{Plan};
 ghost use Rattle.campaign_jobs.specs.declared.result.JobResult.{JobResult};
-ghost use Rattle.campaign_jobs.specs.Choices.{job_choices};
-ghost use Rattle.campaign_jobs.specs.Plans.{part_of};
+ghost use Rattle.campaign_jobs.specs.Choices.{choices_by, job_choices};
+ghost use Rattle.campaign_jobs.specs.Plans.{part_of, schedule_of, stream_of};
 ghost use Rattle.campaign_jobs.specs.Reports.{IsResultOf, job_shown};
 
 /// Proves that the choices of a job are those of the schedule `seed:S:K`, where S is the plan's seed and K the job's
@@ -18,6 +19,22 @@ ghost use Rattle.campaign_jobs.specs.Reports.{IsResultOf, job_shown};
 pub fn job_choices_are_seeded()
     ensures { (most seed number : ℕ) (m : Machine) → job_choices most (generator_of seed number) m
         ≡ choices_from most (chooser_of_schedule (Seeded seed number)) m }
+{}
+
+/// Proves that the choices of a job by priorities are those of the schedule `pct:S:K:D:N`, where S is the plan's seed and
+/// K the job's stream. D and N are the plan's, so they are the same for all jobs.
+pub fn job_choices_are_ranked()
+    ensures { (depth turns most seed number : ℕ) (m : Machine)
+        → choices_by (Priorities depth turns) most seed number m
+        ≡ choices_from most (chooser_of_schedule (Ranked seed number depth turns)) m }
+{}
+
+/// Proves that the choices of a job are those of its schedule, however the jobs of its plan choose.
+#[tactic(auto, using(crate::proofs::JobRuns::are_scheduled))]
+pub fn a_job_follows_its_schedule()
+    ensures { (plan : Plan) (number : ℕ) (m : Machine)
+        → choices_by plan.choosing plan.most plan.seed (stream_of plan number) m
+        ≡ choices_from plan.most (chooser_of_schedule (schedule_of plan number)) m }
 {}
 
 /// Proves that a job has at most one result: any two are equal.

@@ -1,12 +1,15 @@
 //! The plan of a campaign.
 
 ghost use Rattle.std.specs.Prelude.{◌≡◌};
-ghost use Rattle.campaign_jobs.specs.Plans.{fits, stream_of};
+ghost use Rattle.schedule.specs.Choosers.{chooser_of_schedule};
+ghost use Rattle.campaign_jobs.specs.Plans.{fits, schedule_of, stream_of};
 
+use crate::choosing::Choosing;
 use atom_spec::Spec;
 use jvms_machine::machine::{Entry, Limits};
 use machine::admits;
 use program::Program;
+use schedule::Chooser;
 use turn_limit::TurnLimit;
 
 /// The plan of a campaign: its jobs are numbered from 0, and all have one entry and one specification.
@@ -22,6 +25,8 @@ pub struct Plan {
     pub first: u64,
     /// The state of the generator of random words.
     pub seed: u64,
+    /// How the jobs choose the thread of each turn.
+    pub choosing: Choosing,
     /// The limit on the turns of each job.
     pub most: TurnLimit,
     /// The specification of which methods are to be atomic.
@@ -43,5 +48,18 @@ impl Plan {
         ensures { result ≡ stream_of self.now number }
     {
         self.first.wrapping_add(number)
+    }
+
+    /// Returns the chooser of a job, which is that of the job's schedule.
+    pub(crate) fn chooser_of(&self, number: u64) -> Chooser
+        ensures { result ≡ chooser_of_schedule (schedule_of self.now number) }
+    {
+        let stream = self.stream_of(number);
+        match self.choosing {
+            Choosing::Random => Chooser::seeded(self.seed, stream),
+            Choosing::Priorities { depth, turns } => {
+                Chooser::ranked(self.seed, stream, depth, turns)
+            }
+        }
     }
 }

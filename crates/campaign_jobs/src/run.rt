@@ -15,7 +15,6 @@ use atom_graph::Checker;
 use program::Program;
 use program_runs::feed_program;
 use runs::Ending;
-use schedule::Chooser;
 use std::alloc::{AllocError, Global};
 use velodrome::verdict::Verdict;
 
@@ -34,7 +33,7 @@ fn feed_job(
     ensures fed { IfOk result (λ _. IsFedWith
         (job_shown program.now plan.now number) checker.old.lines checker.new) }
 {
-    let mut chooser = Chooser::seeded(plan.seed, plan.stream_of(number));
+    let mut chooser = plan.chooser_of(number);
     let limits = plan.limits;
     let entry = &plan.entry;
     match feed_program(

@@ -1,7 +1,7 @@
 //! Programs and plans for the tests.
 
 use atom_spec::Spec;
-use campaign::Plan;
+use campaign::{Choosing, Plan};
 use inputs::Input;
 use judge::program_of;
 use machine::{Entry, Limits};
@@ -84,6 +84,7 @@ fn plan(alloc: Global, spec: &str, jobs: u64, stop: bool) -> Result<Plan, Fail> 
         jobs,
         first: 0,
         seed: 0,
+        choosing: Choosing::Random,
         most,
         spec: Spec::read(alloc, spec)?,
         stop,

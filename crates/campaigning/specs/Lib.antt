@@ -1,2 +1,3 @@
 pub mod Campaigns
 pub mod Faults
+pub mod Spans

@@ -1,2 +1,3 @@
+pub mod ExploreLimits
 pub mod JobNumbers
 pub mod Screen

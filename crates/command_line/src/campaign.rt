@@ -6,8 +6,9 @@ ghost use Rattle.command_line.specs.JobNumbers.{HasNumbers};
 use crate::entry::natural_of;
 use crate::fault::WordsFault;
 use crate::program_words::{ProgramWords, most_of, number_or, program_words};
-use crate::syntax::{FIRST, JOBS, MOST, SEED, SPECIFICATION, STOP, SUMMARY, WORKERS};
+use crate::syntax::{FIRST, JOBS, MOST, PRIORITIES, SEED, SPECIFICATION, STOP, SUMMARY, WORKERS};
 use clap::ArgMatches;
+use priority_limits::Depth;
 use std::alloc::Global;
 use turn_limit::TurnLimit;
 
@@ -29,6 +30,8 @@ pub struct CampaignWords<'a> {
     pub first: u64,
     /// The state of the generator of random words.
     pub seed: u64,
+    /// The depth of the jobs' priorities. Without it each job chooses at random at each turn.
+    pub depth: Option<Depth>,
     /// The number of workers. It may exceed the limit of a campaign.
     pub workers: u64,
     /// The maximum number of turns of each job.
@@ -63,6 +66,16 @@ fn first_of(matches: &ArgMatches<'_>, jobs: u64) -> Result<u64, WordsFault>
     }
 }
 
+/// Returns the depth of the jobs' priorities, if the words have one. Refuses the words if it is out of range.
+fn depth_of(matches: &ArgMatches<'_>) -> Result<Option<Depth>, WordsFault> {
+    let Some(text) = matches.get_str(PRIORITIES) else {
+        return Ok(None);
+    };
+    let number = natural_of(text).ok_or(WordsFault::Words)?;
+    let depth = Depth::new(number).ok_or(WordsFault::Words)?;
+    Ok(Some(depth))
+}
+
 /// Returns the words of `campaign`.
 pub(crate) fn campaign_words<'a>(
     alloc: Global,
@@ -75,6 +88,7 @@ pub(crate) fn campaign_words<'a>(
     let jobs = natural_of(jobs).ok_or(WordsFault::Words)?;
     let first = first_of(matches, jobs)?;
     let seed = number_or(matches, SEED, DEFAULT_SEED)?;
+    let depth = depth_of(matches)?;
     let workers = number_or(matches, WORKERS, DEFAULT_WORKERS)?;
     let most = most_of(matches)?;
     Ok(CampaignWords {
@@ -83,6 +97,7 @@ pub(crate) fn campaign_words<'a>(
         jobs,
         first,
         seed,
+        depth,
         workers,
         most,
         most_text: matches.get_str(MOST),

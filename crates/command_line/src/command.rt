@@ -1,15 +1,17 @@
 //! Reads the command of a line of words.
 
 use crate::campaign::{CampaignWords, campaign_words};
+use crate::explore::{ExploreWords, explore_words};
 use crate::fault::WordsFault;
 use crate::help::{
-    ASM_HELP, CAMPAIGN_HELP, CHECK_HELP, DEBUG_HELP, EVAL_HELP, HELP, LIST_HELP, NEEDS_HELP,
-    PICTURE_HELP, RUN_HELP, TABLES_HELP, TRACE_HELP,
+    ASM_HELP, CAMPAIGN_HELP, CHECK_HELP, DEBUG_HELP, EVAL_HELP, EXPLORE_HELP, HELP, LIST_HELP,
+    NEEDS_HELP, PICTURE_HELP, RUN_HELP, SHRINK_HELP, TABLES_HELP, TRACE_HELP,
 };
 use crate::program_words::{
     ProgramNames, ProgramWords, files_of, most_of, names_without_entry, program_words,
 };
 use crate::refusals::explanation_of;
+use crate::shrink::{ShrinkWords, shrink_words};
 use crate::syntax::{
     CHOICES, DOT, EXPLAIN, FILE, INPUT, OUTPUT, SCHEDULE, SERIAL, SPECIFICATION, TRACE, syntax,
 };
@@ -35,6 +37,10 @@ pub enum Command<'a> {
     Debug(RunWords<'a>),
     /// `campaign`: runs a program under many schedules.
     Campaign(CampaignWords<'a>),
+    /// `explore`: runs a program under all schedules with few departures.
+    Explore(ExploreWords<'a>),
+    /// `shrink`: leaves out departures of a schedule whose run fails.
+    Shrink(ShrinkWords<'a>),
     /// `check`: decides whether a trace is atomic.
     Check(CheckWords<'a>),
     /// `picture`: prints a picture of a trace.
@@ -228,6 +234,8 @@ fn usage_of(command: &str) -> Option<AskedText> {
         "trace" => Some(AskedText::Help(TRACE_HELP)),
         "debug" => Some(AskedText::Help(DEBUG_HELP)),
         "campaign" => Some(AskedText::Help(CAMPAIGN_HELP)),
+        "explore" => Some(AskedText::Help(EXPLORE_HELP)),
+        "shrink" => Some(AskedText::Help(SHRINK_HELP)),
         "check" => Some(AskedText::Help(CHECK_HELP)),
         "picture" => Some(AskedText::Help(PICTURE_HELP)),
         "asm" => Some(AskedText::Help(ASM_HELP)),
@@ -282,6 +290,8 @@ fn matched<'a>(
         "trace" => trace_command(alloc, matches),
         "debug" => Ok(Command::Debug(run_words(alloc, matches)?)),
         "campaign" => Ok(Command::Campaign(campaign_words(alloc, matches)?)),
+        "explore" => Ok(Command::Explore(explore_words(alloc, matches)?)),
+        "shrink" => Ok(Command::Shrink(shrink_words(alloc, matches)?)),
         "check" => check_command(matches),
         "picture" => picture_command(matches),
         "asm" => asm_command(matches),
@@ -324,8 +334,9 @@ pub(crate) fn parsed<'a>(alloc: Global, words: &'a [String]) -> Result<Command<'
 ///
 /// P04 if the words are no command line. The causes are an option that is unknown, repeated or without a value, a value
 /// that begins with `-` and isn't joined by `=`, and a missing FILE. Others are a malformed entry, argument or number,
-/// and a main class in `eval` or with arguments. The last are an OUT of `asm` that is IN, and a job of `campaign` that
-/// is out of range. The schedule isn't read here.
+/// and a main class in `eval` or with arguments. The last are an OUT of `asm` that is IN, a job or a depth of `campaign`
+/// that is out of range, departures, runs or workers of `explore` that are, and runs of `shrink` that are. The schedule
+/// isn't read here.
 pub fn command_of<'a>(alloc: Global, words: &'a [String]) -> Result<Command<'a>, WordsFault> {
     match (asked_text(words), explained_words(words)) {
         (Some(AskedText::Help(text)), _) => Ok(Command::Help(text)),

@@ -14,6 +14,10 @@ Usage: jvmx COMMAND WORDS
   debug          goes forward and back along the turns of a run
   campaign       runs a program under many schedules and reports in which runs
                  methods were atomic
+  explore        runs a program under all schedules with few departures from a
+                 default and reports the first run that fails
+  shrink         leaves out departures of a schedule whose run fails, as long as
+                 it fails in the same way
   check          reads what threads did and reports whether methods were atomic
   picture        draws a trace: threads, transactions, and the cycle
   asm            writes the class file of a source
@@ -27,8 +31,9 @@ Usage: jvmx COMMAND WORDS
   -V, --version  prints the program's name and version
 
 Exit status: 0; 1 where a run didn't finish, an exception wasn't caught, methods
-weren't atomic or needs found something; 2 where words or inputs are refused; 3
-where memory ran out or a file, standard output or standard error failed.
+weren't atomic, explore or shrink stopped early or needs found something; 2
+where words or inputs are refused; 3 where memory ran out or a file, standard
+output or standard error failed.
 
 A refusal is one line on standard error, jvmx: FILE: CODE NAME. jvmx help CODE
 says what the code means and what usually causes it, and jvmx help P04 -- WORDS
@@ -106,9 +111,14 @@ Usage: jvmx run --entry E [--args N,N] [--sched S] [--max N] [--spec F]
                           one by rising number and round; thread 0 begins. Where
                           T isn't enabled, its turn changes nothing, and none
                           follows
+              pct:S:K:D:N the enabled thread of the highest priority. Random
+                          numbers, by S and K as of seed:, are D - 1 turns below
+                          N, and the threads' priorities. After the I-th of
+                          these turns its thread has priority I - 1, below all
+                          random ones. D is from 1 to 64, N from 1 to 4294967296
               @FILE       the schedule that this file holds, on one line
               examples: --sched list:0,0,1, --sched rr:2, --sched seed:42:54,
-              --sched stay:3=1,7=0
+              --sched stay:3=1,7=0, --sched pct:0:1:3:1000
   --max N     how many turns may be taken: decimal digits, at most 100000000
               (default: 1000000)
   --spec F    which methods are to be atomic, as jvmx help check says: reports
@@ -240,8 +250,8 @@ jvmx campaign: runs a program under many schedules and reports in which runs
 methods were atomic
 
 Usage: jvmx campaign --entry E [--args N,N] --spec F --jobs N [--first K]
-                     [--seed N] [--workers N] [--max N] [--stop] [--summary]
-                     FILE...
+                     [--seed N] [--pct D] [--workers N] [--max N] [--stop]
+                     [--summary] FILE...
 
   --entry E    where the program begins (required), as jvmx help run says
   --args N,N   the arguments of a static method, as jvmx help eval says
@@ -252,6 +262,11 @@ Usage: jvmx campaign --entry E [--args N,N] --spec F --jobs N [--first K]
   --first K    the number of the first job (default: 0). jvmx tables joins the
                tables of several parts of a campaign
   --seed N     SEED, below 18446744073709551616 (default: 0)
+  --pct D      job K runs under pct:SEED:K:D:N, as jvmx help run says, with D
+               from 1 to 64: by random priorities of the threads, which change
+               after D - 1 of N turns. N is the number of turns of the run under
+               stay:, up to --max, and at least 1. Not for threads that loop
+               until another one does something: they may loop up to --max
   --workers N  how many jobs run at the same time, from 1 to 64 (default: 4).
                What is printed doesn't depend on it
   --max N      how many turns each job may take, at most 100000000 (default:
@@ -287,6 +302,147 @@ and 3 as jvmx --help says. jvmx help CODE explains the code of a refusal.
 
 Example: jvmx campaign --entry LostUpdate --spec examples/threads/atomic.spec \\
   --jobs 100 examples/threads/LostUpdate.j
+";
+
+/// The text of `jvmx explore --help`.
+pub const EXPLORE_HELP: &str = "\
+jvmx explore: runs a program under all schedules with few departures from a
+default and reports the first run that fails
+
+Usage: jvmx explore --entry E [--args N,N] [--spec F] [--departures D]
+                    [--within P]... [--runs N] [--max N] [--workers W] [--all]
+                    [--summary] FILE...
+
+  --entry E       where the program begins (required), as jvmx help run says
+  --args N,N      the arguments of a static method, as jvmx help eval says
+  --spec F        which methods are to be atomic, as jvmx help check says
+                  (default: no run is judged)
+  --departures D  how many departures a run may have, at most 16 (default: 2)
+  --within P      leaves threads only in methods that P matches, a pattern as
+                  jvmx help check says. With several, in methods that one of
+                  them matches (default: threads are left in all methods)
+  --runs N        how many runs there may be, from 1 to 1000000000 (default:
+                  1000000)
+  --max N         how many turns each run may take, at most 100000000 (default:
+                  100000)
+  --workers W     how many runs there are at the same time, from 1 to 64
+                  (default: 4). What is printed doesn't depend on it
+  --all           goes on to further levels after one with a run that fails
+  --summary       prints the summary also where standard error is no terminal
+  FILE...         the classes of the program, as jvmx help eval says
+
+Options and FILEs stand in any order. --runs=9 is --runs 9, and after -- all
+words are FILEs.
+
+The default goes on with the thread that took the last turn while it is enabled,
+else with the next enabled one by rising number and round; thread 0 begins. A
+departure is a choice that differs: jvmx help run describes stay:, a schedule by
+its departures. Level K has the runs with K departures, and the levels are run
+one after another, 0, 1, .. D. A thread is left only where it can't go on, or
+where its next turn isn't local. A local turn touches its thread's own frame
+alone, or is a call or a return without a monitor. That loses nothing: for each
+run that ends, one of these has its events and its end, with no more departures.
+
+A run fails if it has a cycle under F, if a thread ended by an uncaught
+exception, if it is Deadlocked or Stalled, or if it is Running after --max
+turns.
+
+Standard output: a line for each level, and then one of the last three lines,
+  departures K runs N cycle N uncaught N deadlocked N stalled N running N
+  failing S cycle at E status X turns N events M
+  covered D
+  stopped
+The line of a level counts its runs, and those that fail in each way. A run that
+fails in several ways counts under each. The line of a level that --runs cuts
+short ends with of M, where M is the number of all its runs.
+
+failing: a run failed. Of the lowest level with such a run this is the first, by
+the positions and threads of its departures. S is its schedule, as --sched of
+jvmx run takes it, and X one of Finished, Running, Stalled, Deadlocked. The
+first E of the M events are the fewest with a cycle. Without a cycle, atomic
+stands for cycle at E. If a thread ended by an exception, the line ends with
+uncaught T C, for the first such thread T and the class C. The level is run to
+its end. It is the last, unless --all is there.
+
+covered D: no run failed, and all levels to D are whole. Then no run that ends
+and has at most D departures fails, wherever it leaves threads: this is proved.
+Nothing is said of runs that never end.
+
+With --within a thread that is enabled is left only if P matches the method of
+its top frame. No P matches a thread before its first call, or in a step of a
+class's initialisation outside of methods. There are fewer runs, so further
+levels come within reach. The last line is then covered D within P, with all P
+in the order of the words, parted by spaces. It says less: of the runs that end
+and have at most D departures, none fails that leaves threads only there. A run
+that leaves one elsewhere isn't covered and may fail. So failing is then the
+first of the runs that leave threads only there.
+
+stopped: no run failed, and --runs came before the end of level D.
+
+Standard error, at a terminal: the summary, which has the lines of the
+specification that match no method, and the commands that run the failing run
+again and debug it.
+
+Exit status: 0 where the last line is covered, 1 where it is failing or stopped;
+2 and 3 as jvmx --help says. jvmx help CODE explains the code of a refusal.
+
+Example: jvmx explore --entry LostUpdate --spec examples/threads/atomic.spec \\
+  examples/threads/LostUpdate.j
+";
+
+/// The text of `jvmx shrink --help`.
+pub const SHRINK_HELP: &str = "\
+jvmx shrink: leaves out departures of a schedule whose run fails, as long as it
+fails in the same way
+
+Usage: jvmx shrink --entry E [--args N,N] --sched S [--spec F] [--max N]
+                   [--runs N] [--summary] FILE...
+
+  --entry E   where the program begins (required), as jvmx help run says
+  --args N,N  the arguments of a static method, as jvmx help eval says
+  --sched S   the schedule whose run fails (required), as jvmx help run says
+  --spec F    which methods are to be atomic, as jvmx help check says (default:
+              no run is judged)
+  --max N     how many turns each run may take, at most 100000000 (default:
+              100000)
+  --runs N    how many runs the search may make, from 1 to 1000000000 (default:
+              10000)
+  --summary   prints the summary also where standard error is no terminal
+  FILE...     the classes of the program, as jvmx help eval says
+
+Options and FILEs stand in any order. --runs=9 is --runs 9, and after -- all
+words are FILEs.
+
+The departures of S are its choices that differ from the default, which jvmx
+help explore describes. Where S ends before the program does, the run goes on by
+the default. A choice of a thread that isn't enabled is a departure too, and
+ends the run.
+
+A run fails if it has a cycle under F, if a thread ended by an uncaught
+exception, if it is Deadlocked or Stalled, or if it is Running after --max
+turns. If the run of the departures of S fails in several of these ways, the
+first of them counts. The search leaves out all departures, halves of them,
+quarters, and so on, and then single ones, wherever the run without them fails
+in this way too.
+
+Standard output: a line, and a second one where --runs came before the end of
+the search,
+  failing S cycle at E status X turns N events M
+  stopped
+The line has the schedule with the departures that are left and how its run
+ends, in the words of jvmx explore. Without a second line, no single departure
+can be left out: this is proved. Several at once may be.
+
+Standard error, at a terminal: the summary, which has the lines of the
+specification that match no method, and the commands that run the failing run
+again and debug it.
+
+Exit status: 0 where no single departure can be left out, 1 where the last line
+is stopped; 2, with P06, where the run doesn't fail; 2 and 3 as jvmx --help
+says. jvmx help CODE explains the code of a refusal.
+
+Example: jvmx shrink --entry LostUpdate --sched rr:1 \\
+  --spec examples/threads/atomic.spec examples/threads/LostUpdate.j
 ";
 
 /// The text of `jvmx check --help`.

@@ -11,8 +11,8 @@ use turn_limit::TurnLimit;
 /// The maximum number of turns without `--max`.
 const DEFAULT_MOST: u64 = 1_000_000;
 
-/// The words that name a program and its entry. `eval` has no others, and `run`, `trace`, `debug` and `campaign` have
-/// options besides.
+/// The words that name a program and its entry. `eval` has no others, and `run`, `trace`, `debug`, `campaign`, `explore`
+/// and `shrink` have options besides.
 #[derive(Debug, Drop)]
 pub struct ProgramWords<'a> {
     pub entry: Entry,
@@ -102,8 +102,13 @@ pub(crate) fn number_or(
     }
 }
 
+/// Returns the maximum number of turns, or the default if the words don't say it.
+pub(crate) fn most_or(matches: &ArgMatches<'_>, default: u64) -> Result<TurnLimit, WordsFault> {
+    let most = number_or(matches, MOST, default)?;
+    TurnLimit::new(most).ok_or(WordsFault::Words)
+}
+
 /// Returns the maximum number of turns.
 pub(crate) fn most_of(matches: &ArgMatches<'_>) -> Result<TurnLimit, WordsFault> {
-    let most = number_or(matches, MOST, DEFAULT_MOST)?;
-    TurnLimit::new(most).ok_or(WordsFault::Words)
+    most_or(matches, DEFAULT_MOST)
 }

@@ -4,9 +4,9 @@ use clap::{Arg, ArgAction, Command};
 use std::alloc::{AllocError, Global};
 
 /// The names of the commands.
-const COMMANDS: [&str; 11] = [
-    "eval", "run", "trace", "debug", "campaign", "check", "picture", "asm", "list", "tables",
-    "needs",
+const COMMANDS: [&str; 13] = [
+    "eval", "run", "trace", "debug", "campaign", "explore", "shrink", "check", "picture", "asm",
+    "list", "tables", "needs",
 ];
 
 /// The option `--entry`.
@@ -42,8 +42,23 @@ pub(crate) const JOBS: &str = "jobs";
 /// The option `--seed`.
 pub(crate) const SEED: &str = "seed";
 
+/// The option `--pct`.
+pub(crate) const PRIORITIES: &str = "pct";
+
 /// The option `--workers`.
 pub(crate) const WORKERS: &str = "workers";
+
+/// The option `--departures`.
+pub(crate) const DEPARTURES: &str = "departures";
+
+/// The option `--runs`.
+pub(crate) const RUNS: &str = "runs";
+
+/// The option `--within`.
+pub(crate) const WITHIN: &str = "within";
+
+/// The flag `--all`.
+pub(crate) const ALL: &str = "all";
 
 /// The flag `--stop`.
 pub(crate) const STOP: &str = "stop";
@@ -81,6 +96,11 @@ fn bare<'a>(alloc: Global, name: &'a str) -> Command<'a> {
 /// Returns an option with a value.
 fn option<'a>(alloc: Global, name: &'a str) -> Arg<'a> {
     Arg::new(alloc, name).long(name).action(ArgAction::Set)
+}
+
+/// Returns an option with a value that may come several times.
+fn options<'a>(alloc: Global, name: &'a str) -> Arg<'a> {
+    Arg::new(alloc, name).long(name).action(ArgAction::Append)
 }
 
 /// Returns an option without a value.
@@ -128,20 +148,49 @@ fn trace_syntax<'a>(alloc: Global) -> Result<Command<'a>, AllocError> {
     scheduled_syntax(alloc, "trace")?.arg(flag(alloc, CHOICES))
 }
 
-/// Returns the syntax `campaign --entry E [--args N,N] --spec F --jobs N [--first K] [--seed N] [--workers N] [--max N]
-/// [--stop] [--summary] FILE...`.
+/// Returns the syntax `campaign --entry E [--args N,N] --spec F --jobs N [--first K] [--seed N] [--pct D] [--workers N]
+/// [--max N] [--stop] [--summary] FILE...`.
 fn campaign_syntax<'a>(alloc: Global) -> Result<Command<'a>, AllocError> {
     let arguments = vec![in alloc;
         option(alloc, SPECIFICATION).required(true),
         option(alloc, JOBS).required(true),
         option(alloc, FIRST),
         option(alloc, SEED),
+        option(alloc, PRIORITIES),
         option(alloc, WORKERS),
         option(alloc, MOST),
         flag(alloc, STOP),
         flag(alloc, SUMMARY),
     ]?;
     program_syntax(alloc, "campaign")?.args(arguments)
+}
+
+/// Returns the syntax `explore --entry E [--args N,N] [--spec F] [--departures D] [--within P]... [--runs N] [--max N]
+/// [--workers W] [--all] [--summary] FILE...`.
+fn explore_syntax<'a>(alloc: Global) -> Result<Command<'a>, AllocError> {
+    let arguments = vec![in alloc;
+        option(alloc, SPECIFICATION),
+        option(alloc, DEPARTURES),
+        options(alloc, WITHIN),
+        option(alloc, RUNS),
+        option(alloc, MOST),
+        option(alloc, WORKERS),
+        flag(alloc, ALL),
+        flag(alloc, SUMMARY),
+    ]?;
+    program_syntax(alloc, "explore")?.args(arguments)
+}
+
+/// Returns the syntax `shrink --entry E [--args N,N] --sched S [--spec F] [--max N] [--runs N] [--summary] FILE...`.
+fn shrink_syntax<'a>(alloc: Global) -> Result<Command<'a>, AllocError> {
+    let arguments = vec![in alloc;
+        option(alloc, SCHEDULE).required(true),
+        option(alloc, SPECIFICATION),
+        option(alloc, MOST),
+        option(alloc, RUNS),
+        flag(alloc, SUMMARY),
+    ]?;
+    program_syntax(alloc, "shrink")?.args(arguments)
 }
 
 /// Returns the syntax `check --spec F [--serial] [--explain] TRACE`.
@@ -195,6 +244,8 @@ fn syntax_of<'a>(alloc: Global, command: &'a str) -> Result<Command<'a>, AllocEr
         "trace" => trace_syntax(alloc),
         "debug" => scheduled_syntax(alloc, command),
         "campaign" => campaign_syntax(alloc),
+        "explore" => explore_syntax(alloc),
+        "shrink" => shrink_syntax(alloc),
         "check" => check_syntax(alloc),
         "picture" => picture_syntax(alloc),
         "asm" => asm_syntax(alloc),

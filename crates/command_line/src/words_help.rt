@@ -2,11 +2,15 @@
 
 use crate::command::{is_text, parsed};
 use crate::entry::{main_entry, natural_of, static_entry};
+use crate::explore::{may_be_departures, may_be_runs, may_be_workers};
 use crate::fault::WordsFault;
 use crate::screen::shown_line;
-use crate::syntax::{ARGUMENTS, ENTRY, FIRST, JOBS, MOST, SEED, WORKERS, syntax};
+use crate::syntax::{
+    ARGUMENTS, DEPARTURES, ENTRY, FIRST, JOBS, MOST, PRIORITIES, RUNS, SEED, WORKERS, syntax,
+};
 use clap::ArgMatches;
 use escapes::cut_twice;
+use priority_limits::Depth;
 use std::alloc::{AllocError, Global};
 use turn_limit::TurnLimit;
 
@@ -14,7 +18,13 @@ use turn_limit::TurnLimit;
 const RUN_NUMBERS: [&str; 1] = [MOST];
 
 /// The options of `campaign` whose value is a number.
-const CAMPAIGN_NUMBERS: [&str; 5] = [JOBS, FIRST, SEED, WORKERS, MOST];
+const CAMPAIGN_NUMBERS: [&str; 6] = [JOBS, FIRST, SEED, PRIORITIES, WORKERS, MOST];
+
+/// The options of `explore` whose value is a number.
+const EXPLORE_NUMBERS: [&str; 4] = [DEPARTURES, RUNS, MOST, WORKERS];
+
+/// The options of `shrink` whose value is a number.
+const SHRINK_NUMBERS: [&str; 2] = [MOST, RUNS];
 
 /// What the entry of a static method has to be.
 const METHOD_WANTED: &str =
@@ -29,13 +39,18 @@ fn numbers_of(command: &str) -> &'static [&'static str] {
     match command {
         "run" | "trace" | "debug" => &RUN_NUMBERS,
         "campaign" => &CAMPAIGN_NUMBERS,
+        "explore" => &EXPLORE_NUMBERS,
+        "shrink" => &SHRINK_NUMBERS,
         _ => &[],
     }
 }
 
 /// Returns whether a command has an entry.
 fn has_entry(command: &str) -> bool {
-    matches!(command, "eval" | "run" | "trace" | "debug" | "campaign")
+    matches!(
+        command,
+        "eval" | "run" | "trace" | "debug" | "campaign" | "explore" | "shrink"
+    )
 }
 
 /// Returns the line of what the value of an option must be.
@@ -48,12 +63,28 @@ fn wanted_line(
     format!(in alloc; "--{option} {value}: {wanted}\n")
 }
 
+/// Returns what the value of a numeric option of `explore` or `shrink` must be, if it is another number.
+fn explore_wanted(option: &str, number: u64) -> Option<&'static str> {
+    match option {
+        DEPARTURES if !may_be_departures(number) => Some("at most 16"),
+        RUNS if !may_be_runs(number) => Some("from 1 to 1000000000"),
+        WORKERS if !may_be_workers(number) => Some("from 1 to 64"),
+        _ => None,
+    }
+}
+
 /// Returns what the value of a numeric option must be, if it isn't that.
-fn number_wanted(option: &str, value: &str) -> Option<&'static str> {
+fn number_wanted(command: &str, option: &str, value: &str) -> Option<&'static str> {
     match natural_of(value) {
         None => Some("decimal digits, below 18446744073709551616"),
-        Some(most) if option == MOST && TurnLimit::new(most).is_none() => {
-            Some("at most 100000000")
+        Some(most) if option == MOST => TurnLimit::new(most)
+            .is_none()
+            .then_some("at most 100000000"),
+        Some(depth) if option == PRIORITIES => {
+            Depth::new(depth).is_none().then_some("from 1 to 64")
+        }
+        Some(number) if command == "explore" || command == "shrink" => {
+            explore_wanted(option, number)
         }
         Some(_) => None,
     }
@@ -67,7 +98,7 @@ fn number_line(
 ) -> Result<Option<String>, AllocError> {
     for option in numbers_of(command) {
         if let Some(value) = matches.get_str(option)
-            && let Some(wanted) = number_wanted(option, value)
+            && let Some(wanted) = number_wanted(command, option, value)
         {
             return Ok(Some(wanted_line(alloc, option, value, wanted)?));
         }

@@ -5,9 +5,9 @@ use crate::limits::DEFAULT_LIMITS;
 use crate::progress::Progress;
 use crate::reading::{read_inputs, read_spec};
 use crate::refusal::Refusal;
-use crate::summary::{JobWords, summary_of};
+use crate::summary::{JobSchedules, SameWords, summary_of};
 use crate::terminal::Terminal;
-use campaigning::{Gate, OpenGate, Plan, Table, write_table};
+use campaigning::{Choosing, Gate, OpenGate, Plan, Table, default_span, write_table};
 use command_line::{CampaignWords, ProgramNames, ProgramWords};
 use inputs::Input;
 use judge::program_of;
@@ -27,6 +27,22 @@ struct CampaignParts<'w> {
     inputs: Vec<Input>,
 }
 
+/// Returns how the jobs choose. If the words have a depth, the priorities change over the turns of the default's run.
+fn choosing_of<'w>(
+    alloc: Global,
+    words: &CampaignWords<'w>,
+    inputs: &[Input],
+) -> Result<Choosing, Refusal<'w>> {
+    let Some(depth) = words.depth else {
+        return Ok(Choosing::Random);
+    };
+    let program = &words.program;
+    match default_span(alloc, inputs, DEFAULT_LIMITS, &program.entry, words.most) {
+        Ok(turns) => Ok(Choosing::Priorities { depth, turns }),
+        Err(fault) => Err(Refusal::of_judge(&program.names, fault)),
+    }
+}
+
 /// Reads the files that the words of a campaign name: first the specification, then the FILEs.
 fn read_campaign<'w, F: Files>(
     alloc: Global,
@@ -35,6 +51,7 @@ fn read_campaign<'w, F: Files>(
 ) -> Result<CampaignParts<'w>, Refusal<'w>> {
     let spec = read_spec(alloc, files, words.spec)?;
     let inputs = read_inputs(alloc, files, words.program.names.files.as_slice())?;
+    let choosing = choosing_of(alloc, &words, inputs.as_slice())?;
     let ProgramWords { entry, names } = words.program;
     let plan = Plan {
         entry,
@@ -42,6 +59,7 @@ fn read_campaign<'w, F: Files>(
         jobs: words.jobs,
         first: words.first,
         seed: words.seed,
+        choosing,
         most: words.most,
         spec,
         stop: words.stop,
@@ -127,16 +145,19 @@ pub(crate) fn perform_campaign<
     let parts = read_campaign(alloc, words, files)?;
     let table = run_jobs(rt, alloc, &parts, workers, output, terminal)?;
     if is_summed {
-        let words = JobWords {
+        let same = SameWords {
             names: &parts.names,
-            spec,
-            first: parts.plan.first,
-            seed,
             most,
             is_shown: terminal.errors,
         };
+        let schedules = JobSchedules {
+            first: parts.plan.first,
+            seed,
+            choosing: parts.plan.choosing,
+        };
         errors.write_all(unmatched_lines(alloc, &parts)?.as_bytes())?;
-        errors.write_all(summary_of(alloc, words, &table)?.as_bytes())?;
+        let summary = summary_of(alloc, same, spec, &schedules, &table)?;
+        errors.write_all(summary.as_bytes())?;
     }
     Ok(u8::from(!is_good(&table)))
 }

@@ -5,6 +5,7 @@
 mod campaigns;
 pub mod choices;
 pub mod eval;
+mod explore;
 mod fault;
 mod files;
 mod limits;
@@ -19,6 +20,7 @@ mod refusal;
 pub mod run;
 mod running;
 mod screen;
+mod shrink;
 mod summary;
 mod tables;
 mod terminal;

@@ -19,7 +19,7 @@ fn read_line<'w, F: Files>(files: &mut F, file: &'w str) -> Result<String, Refus
 }
 
 /// Returns the chooser of the schedule that a word spells, or a file: `@FILE`.
-fn chooser_of<'w, F: Files>(
+pub(crate) fn chooser_of<'w, F: Files>(
     alloc: Global,
     files: &mut F,
     word: &'w str,

@@ -4,6 +4,7 @@ ghost use Rattle.std.specs.Prelude.{OnOk};
 ghost use Rattle.std.specs.Io.KnownBytes.{Appends};
 
 use crate::campaigns::perform_campaign;
+use crate::explore::perform_explore;
 use crate::fault::RunFault;
 use crate::files::Files;
 use crate::limits::DEFAULT_LIMITS;
@@ -14,6 +15,7 @@ use crate::reading::{read_input, read_inputs, read_source, read_spec, read_text}
 use crate::refusal::Refusal;
 use crate::running::{is_cycle, perform_eval, perform_run, perform_trace};
 use crate::screen::{lines_for, write_refusal};
+use crate::shrink::perform_shrink;
 use crate::tables::perform_tables;
 use crate::terminal::{Terminal, TerminalPrompt, source_files};
 use atom_spec::{Spec, SpecificationLine};
@@ -223,6 +225,10 @@ fn command<
         Command::Campaign(words) => {
             perform_campaign(rt, alloc, words, files, output, errors, terminal)
         }
+        Command::Explore(words) => {
+            perform_explore(rt, alloc, words, files, output, errors, terminal)
+        }
+        Command::Shrink(words) => { perform_shrink(alloc, words, files, output, errors, terminal) }
         Command::Check(words) => perform_check(alloc, &words, files, output),
         Command::Picture(words) => perform_picture(alloc, &words, files, output),
         Command::Asm(words) => perform_asm(alloc, words, files),

@@ -7,12 +7,14 @@ use campaigning::{CampaignFault, JoinFault, TableFault};
 use command_line::{ProgramNames, WordsFault};
 use debugger_script::ScriptFault;
 use debugging::DebugStop;
+use explorations::ExplorationFault;
 use inputs::InputFault;
 use judge::JudgeFault;
 use linker::LinkFault;
 use listing::ListFault;
 use machine::MachineFault;
 use schedule::ScheduleFault;
+use shrinkings::ShrinkFault;
 use std::alloc::{AllocError, AllocFailed};
 use std::fmt;
 use trace::DeviceFailure;
@@ -54,6 +56,8 @@ pub(crate) enum Refusal<'w> {
     Table { file: &'w str, fault: TableFault },
     /// T02, T03: tables can't be joined, or memory ran out for it.
     Join { fault: JoinFault },
+    /// P06: the run of a schedule doesn't fail.
+    NotFailing { schedule: &'w str },
     /// P05: standard output or standard error failed.
     Output,
     /// Memory ran out for anything else.
@@ -130,7 +134,7 @@ impl<'w> Refusal<'w> {
     }
 
     /// Returns the refusal for a program that wasn't run and judged.
-    fn of_judge(names: &ProgramNames<'w>, fault: JudgeFault) -> Self {
+    pub(crate) fn of_judge(names: &ProgramNames<'w>, fault: JudgeFault) -> Self {
         match fault {
             JudgeFault::Input { file, fault } => Refusal::Input {
                 file: names.file(file),
@@ -167,6 +171,27 @@ impl<'w> Refusal<'w> {
             CampaignFault::Judge(fault) => Refusal::of_judge(names, fault),
             CampaignFault::Output => Refusal::Output,
             _ => Refusal::Campaign { fault },
+        }
+    }
+
+    /// Returns the refusal for an exploration without an answer, or whose answer wasn't written.
+    pub(crate) fn of_exploration(names: &ProgramNames<'w>, fault: ExplorationFault) -> Self {
+        match fault {
+            ExplorationFault::Judge(fault) => Refusal::of_judge(names, fault),
+            ExplorationFault::Output => Refusal::Output,
+        }
+    }
+
+    /// Returns the refusal for a schedule whose run wasn't shrunk, or wasn't written.
+    pub(crate) fn of_shrinking(
+        names: &ProgramNames<'w>,
+        schedule: &'w str,
+        fault: ShrinkFault,
+    ) -> Self {
+        match fault {
+            ShrinkFault::Judge(fault) => Refusal::of_judge(names, fault),
+            ShrinkFault::NotFailing => Refusal::NotFailing { schedule },
+            ShrinkFault::Output => Refusal::Output,
         }
     }
 
@@ -207,6 +232,9 @@ impl fmt::Display for Refusal<'_> {
             Refusal::Campaign { fault } => write!(f, "{fault}"),
             Refusal::Table { file, fault } => write!(f, "{file}: {fault}"),
             Refusal::Join { fault } => write!(f, "{fault}"),
+            Refusal::NotFailing { schedule } => {
+                write!(f, "{schedule}: {}", ShrinkFault::NotFailing)
+            }
             Refusal::Output => write!(f, "{}", RunFault::Output),
             Refusal::Memory => f.write_str("Memory"),
         }

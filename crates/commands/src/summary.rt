@@ -1,29 +1,35 @@
-//! Makes the summary of a campaign: the commands that run some of its jobs again.
+//! Makes the summaries of a campaign and of an exploration: the commands that run some of their runs again.
 
-use campaigning::{JobResult, Table};
+use campaigning::{Choosing, JobResult, Table};
 use command_line::{ProgramNames, shown_line};
+use explorations::{FailingRun, schedule_text};
 use machine::Status;
 use machine_text::status_name;
 use std::alloc::{AllocError, Global};
 
-/// The words of a campaign that a command for one of its jobs repeats.
+/// The words that a command for a run repeats.
 #[derive(Clone, Copy)]
-pub(crate) struct JobWords<'n, 'w> {
+pub(crate) struct SameWords<'n, 'w> {
     pub names: &'n ProgramNames<'w>,
-    /// The file with the specification of which methods are to be atomic.
-    pub spec: &'w str,
-    /// The number of the first job.
-    pub first: u64,
-    pub seed: u64,
-    /// The word for the maximum number of turns of a job, if there is one.
+    /// The word for the maximum number of turns, if there is one.
     pub most: Option<&'w str>,
     /// `true` if a terminal shows the commands.
     pub is_shown: bool,
 }
 
-impl JobWords<'_, '_> {
+/// What says which schedules the jobs of a campaign have.
+#[derive(Drop)]
+pub(crate) struct JobSchedules {
+    /// The number of the first job.
+    pub first: u64,
+    pub seed: u64,
+    /// How the jobs choose.
+    pub choosing: Choosing,
+}
+
+impl JobSchedules {
     /// Returns the number of the job at a place of the table.
-    fn number_at(self, place: usize) -> u64 {
+    fn number_at(&self, place: usize) -> u64 {
         self.first.saturating_add(place as u64)
     }
 }
@@ -163,22 +169,21 @@ fn put_files(
     Ok(())
 }
 
-/// Returns the line of the command that runs a job again, or debugs it if no specification is named.
+/// Returns the line of the command that runs a schedule again, or debugs it if no specification is named.
 fn command_line(
     alloc: Global,
     command: &str,
-    words: JobWords<'_, '_>,
+    words: SameWords<'_, '_>,
     spec: Option<&str>,
-    number: u64,
+    schedule: &str,
 ) -> Result<String, AllocError> {
-    let (seed, is_shown) = (words.seed, words.is_shown);
+    let is_shown = words.is_shown;
     let mut line = format!(in alloc; "  jvmx {command}")?;
     put_option(alloc, &mut line, " --entry", words.names.entry, is_shown)?;
     if let Some(arguments) = words.names.arguments {
         put_option(alloc, &mut line, " --args", arguments, is_shown)?;
     }
-    let schedule = format!(in alloc; " --sched seed:{seed}:{number}")?;
-    line.push_str(schedule.as_str())?;
+    put_option(alloc, &mut line, " --sched", schedule, is_shown)?;
     if let Some(most) = words.most {
         put_option(alloc, &mut line, " --max", most, is_shown)?;
     }
@@ -233,27 +238,48 @@ fn found_line(
     Ok(line)
 }
 
+/// Returns the schedule of the job of this number.
+fn job_schedule(
+    alloc: Global,
+    schedules: &JobSchedules,
+    number: u64,
+) -> Result<String, AllocError> {
+    let seed = schedules.seed;
+    match &schedules.choosing {
+        Choosing::Random => format!(in alloc; "seed:{seed}:{number}"),
+        Choosing::Priorities { depth, turns } => {
+            let (depth, turns) = (depth.number(), turns.turns());
+            format!(in alloc; "pct:{seed}:{number}:{depth}:{turns}")
+        }
+    }
+}
+
 /// Returns the lines of a job: the findings for which it is the first, and the commands that run it again and debug it.
 fn job_lines(
     alloc: Global,
-    words: JobWords<'_, '_>,
+    same: SameWords<'_, '_>,
+    spec: &str,
+    schedules: &JobSchedules,
     results: &[JobResult],
     place: usize,
 ) -> Result<String, AllocError> {
-    let number = words.number_at(place);
+    let number = schedules.number_at(place);
     let mut lines = found_line(alloc, results, place, number)?;
-    let run = command_line(alloc, "run", words, Some(words.spec), number)?;
+    let schedule = job_schedule(alloc, schedules, number)?;
+    let run = command_line(alloc, "run", same, Some(spec), schedule.as_str())?;
     lines.push_str(run.as_str())?;
-    let debug = command_line(alloc, "debug", words, None, number)?;
+    let debug = command_line(alloc, "debug", same, None, schedule.as_str())?;
     lines.push_str(debug.as_str())?;
     Ok(lines)
 }
 
 /// Returns the summary of a table. It has the first job with a cycle, and the first with each status other than
-/// Finished.
+/// Finished. `spec` is the file with the specification of which methods are to be atomic.
 pub(crate) fn summary_of(
     alloc: Global,
-    words: JobWords<'_, '_>,
+    same: SameWords<'_, '_>,
+    spec: &str,
+    schedules: &JobSchedules,
     table: &Table,
 ) -> Result<String, AllocError> {
     let results = table.results.as_slice();
@@ -262,8 +288,26 @@ pub(crate) fn summary_of(
         if let Some(place) = finding.first_in(results)
             && !is_first_of(&FINDINGS[..before], results, place)
         {
-            summary.push_str(job_lines(alloc, words, results, place)?.as_str())?;
+            let lines = job_lines(alloc, same, spec, schedules, results, place)?;
+            summary.push_str(lines.as_str())?;
         }
     }
     Ok(summary)
+}
+
+/// Returns the lines of a run that fails: the commands that run it again, explain it, and debug it.
+pub(crate) fn failing_summary(
+    alloc: Global,
+    same: SameWords<'_, '_>,
+    spec: Option<&str>,
+    run: &FailingRun,
+) -> Result<String, AllocError> {
+    let schedule = schedule_text(alloc, run.departures.as_slice())?;
+    let schedule = schedule.as_str();
+    let mut lines = String::from_str(alloc, "to run it again, to explain it, and to debug it\n")?;
+    for command in ["run", "run --explain"] {
+        lines.push_str(command_line(alloc, command, same, spec, schedule)?.as_str())?;
+    }
+    lines.push_str(command_line(alloc, "debug", same, None, schedule)?.as_str())?;
+    Ok(lines)
 }

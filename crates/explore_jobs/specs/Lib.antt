@@ -1,3 +1,4 @@
 pub mod Children
 pub mod Fates
 pub mod Plans
+pub mod Stays

@@ -1,13 +1,16 @@
 //! The children of a job: schedules with one more departure, at a later position.
 
-ghost use Rattle.std.specs.Prelude.{List, ◌≡◌, ◌-◌, ◌++◌, ◌==◌, [], ◌∷◌, length, IfOk, OnOk};
+ghost use Rattle.std.specs.Prelude.{ℕ, Bool, List, ◌≡◌, ◌-◌, ◌++◌, ◌==◌, [], ◌∷◌, length, IfOk, OnOk};
 ghost use Rattle.departures.specs.Departures.{chosen_at, default_of, first_in, left_at};
 ghost use Rattle.departures.specs.Jobs.{children_here, children_of, other_if, others_in};
-ghost use Rattle.explore_jobs.specs.Children.{local_in, turns_in, with_each};
+ghost use Rattle.explore_jobs.specs.Children.{stays_in, turns_in, with_each};
 ghost use Rattle.departures.specs.declared.departure.Departure.{Departure};
+ghost use Rattle.jvms_machine.specs.State.{State};
 
+use crate::staying::{can_take, stays};
+use atom_spec::Spec;
 use departures::Departure;
-use machine::{Machine, ThreadId, is_enabled};
+use machine::{Machine, ThreadId};
 use std::alloc::{AllocError, Global};
 use trace::Recording;
 
@@ -20,13 +23,6 @@ fn thread_count(machine: &Machine<'_>) -> u32
     let count = machine.thread_count();
     prove!(count <= most as usize);
     count as u32
-}
-
-/// Decides whether a thread can take a turn.
-fn can_take(machine: &Machine<'_>, thread: ThreadId) -> bool
-    ensures { result ≡ (turns_in machine.now).is_enabled machine.now.state thread }
-{
-    is_enabled(machine.peek(thread))
 }
 
 /// Returns the first enabled thread from one number up to another.
@@ -114,9 +110,9 @@ fn push_others(
     place: Place,
     added: &mut Vec<Departure>,
 ) -> Result<(), AllocError>
-    ensures { (departures : List Departure) → OnOk result
+    ensures { (stays : State → ℕ → Bool) (departures : List Departure) → OnOk result
         (with_each departures added.new.items ≡ with_each departures added.old.items
-        ++ others_in (turns_in machine.now) (local_in machine.now) departures place.position
+        ++ others_in (turns_in machine.now) stays departures place.position
         machine.now.state place.choice 0 (length machine.now.state.threads)) }
 {
     for thread in 0..thread_count(machine) {
@@ -125,37 +121,39 @@ fn push_others(
     Ok(())
 }
 
-/// Appends the departures at a position: none before the last one of the job, or where the last thread's turn is local.
+/// Appends the departures at a position: none before the last one of the job, or where the last thread stays.
 fn push_here(
     machine: &Machine<'_>,
+    within: &Spec,
     left: &[Departure],
     place: Place,
     added: &mut Vec<Departure>,
 ) -> Result<(), AllocError>
     ensures { (departures : List Departure) → OnOk result
         (with_each departures added.new.items ≡ with_each departures added.old.items
-        ++ children_here (turns_in machine.now) (local_in machine.now) departures place.position
+        ++ children_here (turns_in machine.now) (stays_in within.now machine.now) departures place.position
         machine.now.state place.last place.choice left.now) }
 {
     if !left.is_empty() {
         return Ok(());
     }
-    if machine.is_local(place.last) {
+    if stays(machine, within, place.last) {
         return Ok(());
     }
     push_others(machine, place, added)
 }
 
-/// Returns the departures that the children of a job add, by position and thread. The machine takes the job's turns, at
-/// most `most` of them.
+/// Returns the departures that the children of a job add, by position and thread. A thread that stays isn't left. The machine
+/// takes the job's turns, at most `most` of them.
 pub fn added_departures(
     alloc: Global,
     machine: &mut Machine<'_>,
+    within: &Spec,
     departures: &[Departure],
     most: u64,
 ) -> Result<Vec<Departure>, AllocError>
     ensures { IfOk result (λ added. with_each departures.now added.items
-        ≡ children_of (turns_in machine.old) (local_in machine.old) most machine.old.state 0 departures.now) }
+        ≡ children_of (turns_in machine.old) (stays_in within.now machine.old) most machine.old.state 0 departures.now) }
 {
     let mut added = Vec::new(alloc);
     let mut recording = Recording::of_nothing();
@@ -172,7 +170,7 @@ pub fn added_departures(
             last,
             choice: thread,
         };
-        push_here(machine, left, place, &mut added)?;
+        push_here(machine, within, left, place, &mut added)?;
         machine.step_recorded(thread, &mut recording)?;
         last = thread;
         left = choice.left;

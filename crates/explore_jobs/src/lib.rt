@@ -5,6 +5,7 @@ mod children;
 mod fate;
 mod plan;
 mod run;
+mod staying;
 
 pub use children::{added_departures, default_of};
 pub use departures::Departure;

@@ -9,7 +9,7 @@ use machine::admits;
 use program::Program;
 use turn_limit::TurnLimit;
 
-/// The plan of an exploration: all jobs have one entry and one specification.
+/// The plan of an exploration: all jobs have one entry and one specification, and leave threads in the same methods.
 #[derive(Drop)]
 pub struct Plan {
     /// The entry at which each job begins.
@@ -20,6 +20,9 @@ pub struct Plan {
     pub most: TurnLimit,
     /// The specification of which methods are to be atomic. Without a line, each run is atomic.
     pub spec: Spec,
+    /// Lines with the patterns of the methods in which threads may be left. Without a line they are left wherever their next
+    /// turn isn't local.
+    pub within: Spec,
 }
 
 impl Plan {

@@ -2,3 +2,4 @@ mod Covering
 mod Defaults
 mod Ended
 mod Named
+mod Reduced

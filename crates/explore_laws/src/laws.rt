@@ -1,7 +1,8 @@
 //! Laws about what an exploration covers: each is the contract of a function that does nothing.
 
-ghost use Rattle.std.specs.Prelude.{◌≡◌, ℕ, ◌≤◌, List, IsTrue, length};
+ghost use Rattle.std.specs.Prelude.{◌≡◌, ℕ, ◌≤◌, Bool, List, IsTrue, length};
 ghost use Rattle.departures.specs.Departures.{name_of};
+ghost use Rattle.departures.specs.Jobs.{AreGoodTo, CanTakeLocals, IsReduced};
 ghost use Rattle.departures.specs.Turns.{IsSchedule};
 ghost use Rattle.explore_laws.specs.Coverage.{EndsWell, IsWholeRun, JobsEndWell};
 ghost use Rattle.jvms_machine.specs.Limits.{are_limits};
@@ -25,6 +26,20 @@ pub fn jobs_speak_for_all_runs()
         → (lines : Specification) (turns : ℕ) (s : State) (most : ℕ) → Sound program limits s
         → JobsEndWell program limits start lines turns s most → (choices : List ℕ)
         → IsWholeRun program limits start s most choices
+        → (length choices ≤ turns) × EndsWell program limits start lines s choices }
+{}
+
+/// Proves that jobs speak for reduced runs, whichever threads stay where, as long as a thread that stays can take its turn: if
+/// the runs of all jobs up to a level end well, so does each run that ends, has at most as many departures, and leaves no
+/// thread where it stays. It has no more than the turns of a job.
+pub fn jobs_speak_for_reduced_runs()
+    ensures { (program : List Class) (limits : Limits) (start : Start) (stays : State → ℕ → Bool)
+        → CanTakeLocals (turns_of program limits start) stays
+        → (lines : Specification) (turns : ℕ) (s : State) (most : ℕ)
+        → AreGoodTo (turns_of program limits start) stays turns s 0 most
+        (EndsWell program limits start lines s) → (choices : List ℕ)
+        → IsWholeRun program limits start s most choices
+        → IsReduced (turns_of program limits start) stays s 0 choices
         → (length choices ≤ turns) × EndsWell program limits start lines s choices }
 {}
 

@@ -27,7 +27,7 @@ use Rattle.jvms_machine.specs.State.{State}
 use Rattle.jvms_machine.specs.declared.machine.Status.{Status}
 use Rattle.jvms_machine.specs.declared.machine.Status.TheVariants as status
 use Rattle.jvms_program.specs.declared.program.Class.{Class}
-use Rattle.local_laws.specs.Local.{is_local}
+use Rattle.explore_jobs.specs.Stays.{stays}
 use Rattle.local_turns.specs.Turns.{turns_of}
 use Rattle.machine.specs.Machine.{Machine}
 use Rattle.machine.specs.Started.{opened_machine}
@@ -88,7 +88,7 @@ module _ (program : List Class) (plan : Plan) (start : Start) where
   sys = turns_of program plan.limits start
 
   abbrev local : State → ℕ → Bool
-  local = is_local program plan.limits start
+  local = stays program plan.limits start plan.within
 
   abbrev opened : Machine
   opened = opened_machine program plan.limits start

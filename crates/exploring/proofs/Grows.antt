@@ -16,7 +16,7 @@ use Rattle.exploring.specs.Growths.{IsGrowthOf}
 use Rattle.jvms_machine.specs.Opening.{opening, start_of_entry}
 use Rattle.jvms_machine.specs.Start.{Start}
 use Rattle.jvms_program.specs.declared.program.Class.{Class}
-use Rattle.local_laws.specs.Local.{is_local}
+use Rattle.explore_jobs.specs.Stays.{stays}
 use Rattle.local_turns.specs.Turns.{turns_of}
 use Rattle.explore_jobs.specs.Children.{with_each}
 use Rattle.exploring.specs.declared.growth.Growth.{Growth}
@@ -85,8 +85,8 @@ pub next_children : (program : List Class) (plan : Plan) (start : Start) (jobs :
     → IsGrowthOf room (children_of_all program plan start (take (from + place) jobs)) old → IsGrowthOf room (children_of_all program plan start (take (from + (place + 1)) jobs)) new
 next_children program plan start jobs from place room found one old new parent added begun adds less within job read same grows before =
     let sys = turns_of program plan.limits start in
-    let stays = is_local program plan.limits start in
+    let kept = stays program plan.limits start plan.within in
     let items : added ≡ (get_or found place one).items = same ∙ ap (λ (v : Vec Departure Global). v.items) (sym read) in
-    grown_step sys stays plan.most (opening program) 0 jobs from place room found one old new parent
+    grown_step sys kept plan.most (opening program) 0 jobs from place room found one old new parent
     (weaker (AddsChildrenOf program plan) (λ job v. with_each job v.items ≡ children_at program plan start job) (λ job v is. is start begun) (take (length found) (drop from jobs)) found adds)
     less within job (λ js grown. subst (λ ds. IsGrowthOf room (js ++ with_each parent ds) new) items (grows js grown)) before

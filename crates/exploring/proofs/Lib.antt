@@ -1,7 +1,10 @@
 mod Covered
+mod Failures
 mod Found
 mod Grown
 mod Grows
 mod Searched
 mod Split
+mod Staying
+mod Thorough
 mod Whole

@@ -11,8 +11,9 @@ use Rattle.explore_jobs.specs.declared.fate.Fate.{Fate}
 use Rattle.explore_jobs.specs.declared.plan.Plan.{Plan}
 use Rattle.exploring.specs.Answers.{AreFirstFates, AreLevelRuns, IsAnswerTo, IsFailingRun}
 use Rattle.exploring.specs.Counts.{level_of}
-use Rattle.exploring.specs.Explorations.{CoversBelow, Explored, IsNextLevel, IsOnWay, jobs_at, level_in}
+use Rattle.exploring.specs.Explorations.{Covers, Explored, IsNextLevel, IsOnWay, jobs_at, level_in}
 use Rattle.exploring.specs.Searches.{IsAfter, IsBefore, IsFirstFailing, IsFoundFrom}
+use Rattle.exploring.specs.Thorough.{IsThorough}
 use Rattle.exploring.specs.declared.answer.Answer.{Answer}
 use Rattle.exploring.specs.declared.answer.Bounds.{Bounds}
 use Rattle.exploring.specs.declared.answer.FailingRun.{FailingRun}
@@ -65,7 +66,7 @@ failing_is e start run way begun found =
           (subst (λ js. slice_get js found.place ≡ Some run.departures.items) at.jobs found.is.job));
       fate = found.is.fate;
       ending = found.is.ending;
-      least = subst (CoversBelow e.program e.plan start) long (found.least start begun);
+      least = subst (Covers e.program e.plan start) long (found.least start begun);
     }
 
 failing_from : (e : Explored) (start : Start) (o : Option FailingRun) → IsOnWay e → start_of_entry e.program e.plan.limits e.plan.entry ≡ Ok start → IfSome o (IsFirstFailing e) → IfSome o (IsFailingRun e.program e.plan start)
@@ -135,9 +136,10 @@ before_next old new room after next levels_are failing_is =
 
 pub answer_is : (program : List Class) (plan : Plan) (bounds : Bounds) (search : Search) (answer : Answer) → IsAfter search → search.exploration.program ≡ program → search.exploration.plan ≡ plan
     → answer.levels ≡ search.levels → answer.failing ≡ search.failing
-    → (IsTrue answer.is_covered → (start : Start) → start_of_entry search.exploration.program search.exploration.plan.limits search.exploration.plan.entry ≡ Ok start → CoversBelow search.exploration.program search.exploration.plan start (bounds.departures + 1))
+    → IsThorough bounds answer
+    → (IsTrue answer.is_covered → (start : Start) → start_of_entry search.exploration.program search.exploration.plan.limits search.exploration.plan.entry ≡ Ok start → Covers search.exploration.program search.exploration.plan start (bounds.departures + 1))
     → IsAnswerTo program plan bounds answer
-answer_is program plan bounds search answer after same_program same_plan levels_are failing_is covers =
+answer_is program plan bounds search answer after same_program same_plan levels_are failing_is thorough covers =
     let own : IsAnswerTo search.exploration.program search.exploration.plan bounds answer =
     λ start begun.
     let found = after.found start begun in
@@ -145,6 +147,7 @@ answer_is program plan bounds search answer after same_program same_plan levels_
       levels = subst (λ (v : Vec LevelRuns Global). (l : ℕ) → IfSome (slice_get v.items l) (AreLevelRuns search.exploration.program search.exploration.plan start l)) (sym levels_are) found.levels;
       failing = subst (λ (o : Option FailingRun). IfSome o (IsFailingRun search.exploration.program search.exploration.plan start)) (sym failing_is) found.failing;
       covered = λ good. covers good start begun;
+      thorough = thorough;
     }
     in
     subst (λ (x : Plan). IsAnswerTo program x bounds answer) same_plan (subst (λ (x : List Class). IsAnswerTo x search.exploration.plan bounds answer) same_program own)

@@ -6,7 +6,7 @@ use Rattle.std.proofs.lemmas.Slice.Zip.{AllZip-long}
 use Rattle.std.specs.List.{AllZip}
 use Rattle.std.specs.Prelude.{IsTrue, is_none, nat_eq, slice_index_or, ◌&&◌}
 use Rattle.departures.specs.Departures.{choices_of}
-use Rattle.departures.specs.Jobs.{CanTakeLocals, IsJob, all_children, jobs_of}
+use Rattle.departures.specs.Jobs.{AreGoodBelow, AreGoodTo, CanTakeLocals, IsJob, IsReduced, all_children, jobs_of}
 use Rattle.departures.specs.declared.departure.Departure.{Departure}
 use Rattle.explore_jobs.specs.Fates.{IsFateOf}
 use Rattle.explore_jobs.specs.declared.fate.Fate.{Fate}
@@ -16,8 +16,9 @@ use Rattle.explore_jobs.specs.Plans.{fits}
 use Rattle.exploring.proofs.Covered.{Made, level_ends_well}
 use Rattle.exploring.proofs.Found.{job_of, joined}
 use Rattle.exploring.proofs.Grows.{zip_at}
+use Rattle.exploring.proofs.Staying.{staying_can_take}
 use Rattle.exploring.specs.Batches.{job_at}
-use Rattle.exploring.specs.Explorations.{AreFatesOf, CoversBelow, Explored, IsNextLevel, IsOnWay, children_of_all, JobsEndWellBelow, first_failing, is_good, is_whole, jobs_at, level_in}
+use Rattle.exploring.specs.Explorations.{AreFatesOf, Covers, CoversWith, Explored, IsNextLevel, IsOnWay, children_of_all, JobsEndWellBelow, first_failing, is_good, is_whole, jobs_at, level_in}
 use Rattle.exploring.specs.Growths.{AreChildrenIn, IsGrowthOf}
 use Rattle.exploring.specs.declared.growth.Growth.{Growth}
 use Rattle.jvms_machine.proofs.OpeningSoundness.{opening_is_sound}
@@ -28,7 +29,7 @@ use Rattle.jvms_machine.specs.State.{Sound, State}
 use Rattle.jvms_machine.specs.declared.machine.Limits.{Limits}
 use Rattle.jvms_program.specs.Program.{IsProgram}
 use Rattle.jvms_program.specs.declared.program.Class.{Class}
-use Rattle.local_laws.specs.Local.{is_local}
+use Rattle.explore_jobs.specs.Stays.{stays}
 use Rattle.local_turns.proofs.Turned.{are_local}
 use Rattle.local_turns.specs.Turns.{turns_of}
 use Rattle.program_runs.proofs.ShownRuns.{made_is_opened}
@@ -41,16 +42,36 @@ Speaks =
     → (lines : Specification) (turns : ℕ) (s : State) (most : ℕ) → Sound program limits s → JobsEndWell program limits start lines turns s most
     → (choices : List ℕ) → IsWholeRun program limits start s most choices → (length choices ≤ turns) × EndsWell program limits start lines s choices
 
-pub covered_below : (speaks : Speaks) (program : List Class) (plan : Plan) (start : Start) (end : ℕ) → IsProgram program → start_of_entry program plan.limits plan.entry ≡ Ok start → JobsEndWellBelow program plan start end → CoversBelow program plan start end
-covered_below speaks program plan start end is made below most less choices run =
-    let opened = made_is_opened plan.limits program plan.entry start is made in
-    speaks program plan.limits start is opened.limits opened.start plan.spec plan.most (opening program) most (opening_is_sound program plan.limits opened.limits)
-    (λ level within ds job. below level (omega (arith, within, less)) ds job) choices run
+-- Jobs speak for reduced runs, whichever threads stay where.
+abbrev pub SpeaksReduced : Type 0
+SpeaksReduced =
+    (program : List Class) (limits : Limits) (start : Start) (stays : State → ℕ → Bool) → CanTakeLocals (turns_of program limits start) stays
+    → (lines : Specification) (turns : ℕ) (s : State) (most : ℕ) → AreGoodTo (turns_of program limits start) stays turns s 0 most (EndsWell program limits start lines s)
+    → (choices : List ℕ) → IsWholeRun program limits start s most choices → IsReduced (turns_of program limits start) stays s 0 choices
+    → (length choices ≤ turns) × EndsWell program limits start lines s choices
 
-can_take : (program : List Class) (plan : Plan) (start : Start) → IsProgram program → start_of_entry program plan.limits plan.entry ≡ Ok start → CanTakeLocals (turns_of program plan.limits start) (is_local program plan.limits start)
+can_take : (program : List Class) (plan : Plan) (start : Start) → IsProgram program → start_of_entry program plan.limits plan.entry ≡ Ok start → CanTakeLocals (turns_of program plan.limits start) (stays program plan.limits start plan.within)
 can_take program plan start is made =
     let opened = made_is_opened plan.limits program plan.entry start is made in
-    (are_local program plan.limits start is opened.limits opened.start).can_take
+    staying_can_take program plan.limits start plan.within (are_local program plan.limits start is opened.limits opened.start).can_take
+
+covered_with : (speaks : Speaks) (reduced : SpeaksReduced) (program : List Class) (plan : Plan) (start : Start) (end : ℕ) (within : Specification) → plan.within ≡ within → IsProgram program → start_of_entry program plan.limits plan.entry ≡ Ok start
+    → JobsEndWellBelow program plan start end → CoversWith program plan start within end
+covered_with speaks reduced program plan start end [] same is made below =
+    λ most less choices run.
+    let opened = made_is_opened plan.limits program plan.entry start is made in
+    let all =
+    subst (λ (within : Specification). AreGoodBelow (turns_of program plan.limits start) (stays program plan.limits start within) plan.most (opening program) 0 end (EndsWell program plan.limits start plan.spec (opening program))) same below
+    in
+    speaks program plan.limits start is opened.limits opened.start plan.spec plan.most (opening program) most (opening_is_sound program plan.limits opened.limits)
+    (λ level within ds job. all level (omega (arith, within, less)) ds job) choices run
+covered_with speaks reduced program plan start end (line ∷ lines) same is made below =
+    λ most less choices run leaves.
+    reduced program plan.limits start (stays program plan.limits start plan.within) (can_take program plan start is made) plan.spec plan.most (opening program) most
+    (λ level within ds job. below level (omega (arith, within, less)) ds job) choices run leaves
+
+pub covered_below : (speaks : Speaks) (reduced : SpeaksReduced) (program : List Class) (plan : Plan) (start : Start) (end : ℕ) → IsProgram program → start_of_entry program plan.limits plan.entry ≡ Ok start → JobsEndWellBelow program plan start end → Covers program plan start end
+covered_below speaks reduced program plan start end is made below = covered_with speaks reduced program plan start end plan.within refl is made below
 
 -- ---- Whole levels
 
@@ -85,11 +106,11 @@ EndsWellAt program plan start ds =
     (choices_of (turns_of program plan.limits start) plan.most 0 (opening program) 0 ds)
 
 below_or_at : (b : Bool) (program : List Class) (plan : Plan) (start : Start) (level l : ℕ) → nat_lt l level ≡ b → l < level + 1 → JobsEndWellBelow program plan start level
-    → ((ds : List Departure) → IsJob (turns_of program plan.limits start) (is_local program plan.limits start) plan.most (opening program) 0 level ds → EndsWellAt program plan start ds)
-    → (ds : List Departure) → IsJob (turns_of program plan.limits start) (is_local program plan.limits start) plan.most (opening program) 0 l ds → EndsWellAt program plan start ds
+    → ((ds : List Departure) → IsJob (turns_of program plan.limits start) (stays program plan.limits start plan.within) plan.most (opening program) 0 level ds → EndsWellAt program plan start ds)
+    → (ds : List Departure) → IsJob (turns_of program plan.limits start) (stays program plan.limits start plan.within) plan.most (opening program) 0 l ds → EndsWellAt program plan start ds
 below_or_at true program plan start level l is less below here ds job = below l (grind (arith, nat_tests)) ds job
 below_or_at false program plan start level l is less below here ds job =
-    let same : l ≡ level = grind (arith, nat_tests) in here ds (subst (λ n. IsJob (turns_of program plan.limits start) (is_local program plan.limits start) plan.most (opening program) 0 n ds) same job)
+    let same : l ≡ level = grind (arith, nat_tests) in here ds (subst (λ n. IsJob (turns_of program plan.limits start) (stays program plan.limits start plan.within) plan.most (opening program) 0 n ds) same job)
 
 pub good_to : (made : Made) (e : Explored) (start : Start) → IsProgram e.program → IsOnWay e → start_of_entry e.program e.plan.limits e.plan.entry ≡ Ok start → IsTrue (is_good e) → JobsEndWellBelow e.program e.plan start (level_in e + 1)
 good_to made e start is way begun good level less ds job =

@@ -1,10 +1,11 @@
 -- Explorations: the levels of jobs of a program, and how their runs end.
-use Rattle.std.specs.Prelude.{◌≡◌, ℕ, ◌+◌, ◌≤◌, ◌<◌, Bool, ◌&&◌, ◌==◌, List, [], length, take, IsTrue, Option, Ok, is_none}
+use Rattle.std.specs.Prelude.{◌≡◌, ℕ, ◌+◌, ◌≤◌, ◌<◌, Bool, ◌&&◌, ◌==◌, List, [], ◌∷◌, length, take, IsTrue, Option, Ok, is_none}
 use Rattle.std.specs.List.{AllZip, position}
-use Rattle.departures.specs.Jobs.{AreGoodBelow, all_children, children_of, jobs_of}
+use Rattle.departures.specs.Jobs.{AreGoodBelow, IsReduced, all_children, children_of, jobs_of}
 use Rattle.departures.specs.declared.departure.Departure.{Departure}
 use Rattle.explore_jobs.specs.Fates.{IsFateOf, fails}
 use Rattle.explore_jobs.specs.Plans.{fits}
+use Rattle.explore_jobs.specs.Stays.{stays}
 use Rattle.explore_jobs.specs.declared.fate.Fate.{Fate}
 use Rattle.explore_jobs.specs.declared.plan.Plan.{Plan}
 use Rattle.explore_laws.specs.Coverage.{EndsWell, IsWholeRun}
@@ -12,8 +13,8 @@ use Rattle.exploring.specs.Levels.{LevelJobs}
 use Rattle.jvms_machine.specs.Opening.{opening, start_of_entry}
 use Rattle.jvms_machine.specs.Start.{Start}
 use Rattle.jvms_program.specs.declared.program.Class.{Class}
-use Rattle.local_laws.specs.Local.{is_local}
 use Rattle.local_turns.specs.Turns.{turns_of}
+use Rattle.velodrome.specs.Specification.{Specification}
 
 -- An exploration on its way: the first jobs of a level, how many jobs the level has, how the first runs ended, and whether all
 -- levels below are whole and have no run that fails.
@@ -48,20 +49,20 @@ is_good e = e.is_good_below && is_whole e && is_none (first_failing e.fates)
 module _ (program : List Class) (plan : Plan) (start : Start) where
   -- Returns the jobs of a level, in the order in which they are found.
   abbrev pub jobs_at : ℕ → List (List Departure)
-  jobs_at level = jobs_of (turns_of program plan.limits start) (is_local program plan.limits start) plan.most (opening program) 0 level
+  jobs_at level = jobs_of (turns_of program plan.limits start) (stays program plan.limits start plan.within) plan.most (opening program) 0 level
 
   -- Returns the children of a job, by position and thread.
   abbrev pub children_at : List Departure → List (List Departure)
-  children_at departures = children_of (turns_of program plan.limits start) (is_local program plan.limits start) plan.most (opening program) 0 departures
+  children_at departures = children_of (turns_of program plan.limits start) (stays program plan.limits start plan.within) plan.most (opening program) 0 departures
 
   -- Returns the children of all of these jobs.
   abbrev pub children_of_all : List (List Departure) → List (List Departure)
-  children_of_all jobs = all_children (turns_of program plan.limits start) (is_local program plan.limits start) plan.most (opening program) 0 jobs
+  children_of_all jobs = all_children (turns_of program plan.limits start) (stays program plan.limits start plan.within) plan.most (opening program) 0 jobs
 
   -- The runs of all jobs below a level end well.
   abbrev pub JobsEndWellBelow : ℕ → Type 0
   JobsEndWellBelow level =
-      AreGoodBelow (turns_of program plan.limits start) (is_local program plan.limits start) plan.most (opening program) 0 level
+      AreGoodBelow (turns_of program plan.limits start) (stays program plan.limits start plan.within) plan.most (opening program) 0 level
       (EndsWell program plan.limits start plan.spec (opening program))
 
   -- Each run that ends and has fewer departures than this number has no more turns than the plan's, and ends well: all threads
@@ -70,6 +71,22 @@ module _ (program : List Class) (plan : Plan) (start : Start) where
   CoversBelow end =
       (most : ℕ) → most < end → (choices : List ℕ) → IsWholeRun program plan.limits start (opening program) most choices
       → (length choices ≤ plan.most) × EndsWell program plan.limits start plan.spec (opening program) choices
+
+  -- So does each such run that leaves no thread where it stays. Nothing is said of the others.
+  abbrev pub CoversStayingBelow : ℕ → Type 0
+  CoversStayingBelow end =
+      (most : ℕ) → most < end → (choices : List ℕ) → IsWholeRun program plan.limits start (opening program) most choices
+      → IsReduced (turns_of program plan.limits start) (stays program plan.limits start plan.within) (opening program) 0 choices
+      → (length choices ≤ plan.most) × EndsWell program plan.limits start plan.spec (opening program) choices
+
+  -- Without a pattern all such runs are covered, and with patterns those that leave no thread where it stays.
+  abbrev pub CoversWith : Specification → ℕ → Type 0
+  CoversWith [] end = CoversBelow end
+  CoversWith (line ∷ lines) end = CoversStayingBelow end
+
+  -- What an exploration covers below a level.
+  abbrev pub Covers : ℕ → Type 0
+  Covers end = CoversWith plan.within end
 
 -- The jobs are the first of their level, and the levels below end well if they are said to be good.
 pub record IsAtLevel (e : Explored) (start : Start) : Type 0 where

@@ -5,3 +5,4 @@ pub mod Explorations
 pub mod Growths
 pub mod Levels
 pub mod Searches
+pub mod Thorough

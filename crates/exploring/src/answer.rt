@@ -1,10 +1,12 @@
 //! Explorations up to a bound, and what they find.
 
-ghost use Rattle.std.specs.Prelude.{◌≡◌, ◌+◌, ◌<◌, ◌≤◌, ◌⊎◌, IfOk, IfSome, IsTrue, Ok, OnOk, length};
+ghost use Rattle.std.specs.Prelude.{◌≡◌, ◌+◌, ◌<◌, ◌≤◌, ◌⊎◌, ◌==◌, ◌&&◌, ◌||◌, IfOk, IfSome, IsTrue, Ok, OnOk, false, is_none, is_some, length, true};
 ghost use Rattle.explore_jobs.specs.Plans.{fits};
 ghost use Rattle.exploring.specs.Answers.{IsAnswerTo};
-ghost use Rattle.exploring.specs.Explorations.{CoversBelow, Explored, is_whole, level_in};
-ghost use Rattle.exploring.specs.Searches.{AreAlike, IsAfter, IsBefore, IsFirstFailing, IsRunAt};
+ghost use Rattle.exploring.specs.Explorations.{Covers, Explored, first_failing, is_good, is_whole, level_in};
+ghost use Rattle.exploring.specs.Searches.{AreAlike, IsAfter, IsBefore, IsFirstFailing, IsRunAt, IsThoroughAfter, IsThoroughBefore, is_shown_after};
+ghost use Rattle.exploring.specs.Thorough.{is_followed};
+ghost use Rattle.exploring.specs.declared.answer.Bounds.{Bounds};
 ghost use Rattle.jvms_machine.specs.Opening.{start_of_entry};
 ghost use Rattle.jvms_machine.specs.Start.{Start};
 
@@ -101,6 +103,7 @@ impl<'a> Search<'a> {
         ensures program { result.exploration.program ≡ program.now }
         ensures plan { result.exploration.plan ≡ plan.now }
         ensures level { level_in result.exploration ≡ 0 }
+        ensures thorough { (bounds : Bounds) → bounds.runs ≡ runs → IsThoroughBefore bounds result }
     {
         Search {
             alloc,
@@ -130,11 +133,19 @@ impl<'a> Search<'a> {
         team: &Team<'_, R, O>,
     ) -> Result<(), AllocError>
         requires { 0 < team.now.workers }
-        ensures { OnOk result (self.new ≡ record self.old { exploration = record self.old.exploration { fates = self.new.exploration.fates } }) }
+        ensures same { OnOk result (self.new ≡ record self.old { exploration = record self.old.exploration { fates = self.new.exploration.fates } }) }
+        ensures all { 0 < self.old.left → OnOk result
+            (length self.new.exploration.jobs.jobs ≤ length self.new.exploration.fates) }
+        ensures none { self.old.left ≡ 0 → OnOk result
+            (self.new.exploration.fates ≡ self.old.exploration.fates) }
     {
         let exploration = &mut self.exploration;
         team.observer
             .begins(exploration.departures(), exploration.count());
+        // Level 0 has a job even if no run may be made.
+        if self.left == 0 {
+            return Ok(());
+        }
         while exploration.ran() < exploration.kept() {
             exploration.run_jobs(team.rt, team.workers)?;
             team.observer.ran(exploration.ran() as u64);
@@ -146,7 +157,10 @@ impl<'a> Search<'a> {
     fn find_failing(&mut self) -> Result<(), AllocError>
         ensures exploration { self.new.exploration ≡ self.old.exploration }
         ensures levels { self.new.levels ≡ self.old.levels }
+        ensures left { self.new.left ≡ self.old.left }
         ensures failing { (self.new.failing ≡ self.old.failing) ⊎ IfSome self.new.failing (IsFirstFailing self.old.exploration) }
+        ensures shown { OnOk result (is_some self.new.failing ≡ is_shown_after (is_some self.old.failing)
+            self.old.exploration.is_good_below (is_some (first_failing self.old.exploration.fates))) }
     {
         if self.exploration.covers_below()
             && let Some(place) = self.exploration.first_failing()
@@ -165,6 +179,8 @@ impl<'a> Search<'a> {
         ensures after { IsBefore self.old → OnOk result (IsAfter self.new) }
         ensures alike { OnOk result (AreAlike self.old self.new) }
         ensures level { OnOk result (level_in self.new.exploration ≡ level_in self.old.exploration) }
+        ensures thorough { (bounds : Bounds) → IsThoroughBefore bounds self.old
+            → OnOk result (IsThoroughAfter bounds self.new) }
     {
         self.run_jobs(team)?;
         self.exploration.is_on_way();
@@ -188,17 +204,39 @@ impl<'a> Search<'a> {
         ensures before { IsAfter self.old → OnOk result (IsBefore self.new) }
         ensures alike { OnOk result (AreAlike self.old self.new) }
         ensures level { OnOk result (level_in self.new.exploration ≡ level_in self.old.exploration + 1) }
+        ensures thorough { (bounds : Bounds) → IsThoroughAfter bounds self.old
+            → is_followed bounds self.old.levels.items ≡ true → OnOk result (IsThoroughBefore bounds self.new) }
     {
         let left = self.left;
         self.exploration.grow(team.rt, team.workers, left)?;
+        self.exploration.is_on_way();
         Ok(())
     }
 
     /// Returns whether the next level is to be run.
     fn goes_on(&self, all: bool) -> bool
-        ensures { IsTrue result → IsTrue (is_whole self.now.exploration) }
+        ensures whole { IsTrue result → IsTrue (is_whole self.now.exploration) }
+        ensures exact { result ≡ (is_whole self.now.exploration && (all || is_none self.now.failing)) }
     {
         self.exploration.is_whole() && (all || self.failing.is_none())
+    }
+
+    /// Goes on to the next level, runs its jobs that are kept, counts them, and finds the first that fails.
+    fn run_next<R: Threads + Wait + Sync, O: Observer>(
+        &mut self,
+        team: &Team<'_, R, O>,
+    ) -> Result<(), AllocError>
+        requires workers { 0 < team.now.workers }
+        requires whole { IsTrue (is_whole self.old.exploration) }
+        requires level { level_in self.old.exploration < 16 }
+        ensures after { IsAfter self.old → OnOk result (IsAfter self.new) }
+        ensures alike { OnOk result (AreAlike self.old self.new) }
+        ensures level { OnOk result (level_in self.new.exploration ≡ level_in self.old.exploration + 1) }
+        ensures thorough { (bounds : Bounds) → IsThoroughAfter bounds self.old
+            → is_followed bounds self.old.levels.items ≡ true → OnOk result (IsThoroughAfter bounds self.new) }
+    {
+        self.grow(team)?;
+        self.run_level(team)
     }
 
     /// Runs the levels up to the bounds.
@@ -211,25 +249,28 @@ impl<'a> Search<'a> {
         requires bounds { bounds.departures ≤ 16 }
         requires before { IsBefore self.old }
         requires level { level_in self.old.exploration ≡ 0 }
+        requires thorough { IsThoroughBefore bounds self.old }
         ensures after { OnOk result (IsAfter self.new) }
         ensures alike { OnOk result (AreAlike self.old self.new) }
+        ensures thorough { OnOk result (IsThoroughAfter bounds self.new) }
+        ensures last { OnOk result (is_followed bounds self.new.levels.items ≡ false) }
     {
         self.run_level(team)?;
         for _ in 0..bounds.departures {
             if !self.goes_on(bounds.all) {
                 return Ok(());
             }
-            self.grow(team)?;
-            self.run_level(team)?;
+            self.run_next(team)?;
         }
         Ok(())
     }
 
     /// Returns whether all levels up to this number of departures are whole and have no run that fails.
     fn covers(&self, most: u64) -> bool
-        ensures { IsTrue result → (start : Start)
+        ensures exact { result ≡ (level_in self.now.exploration == most && is_good self.now.exploration) }
+        ensures covers { IsTrue result → (start : Start)
             → start_of_entry self.now.exploration.program self.now.exploration.plan.limits self.now.exploration.plan.entry ≡ Ok start
-            → CoversBelow self.now.exploration.program self.now.exploration.plan start (most + 1) }
+            → Covers self.now.exploration.program self.now.exploration.plan start (most + 1) }
     {
         if self.exploration.departures() != most {
             return false;
@@ -241,9 +282,10 @@ impl<'a> Search<'a> {
     fn answer(self, most: u64) -> Answer
         ensures levels { result.levels ≡ self.entry.levels }
         ensures failing { result.failing ≡ self.entry.failing }
+        ensures exact { result.is_covered ≡ (level_in self.entry.exploration == most && is_good self.entry.exploration) }
         ensures covered { IsTrue result.is_covered → (start : Start)
             → start_of_entry self.entry.exploration.program self.entry.exploration.plan.limits self.entry.exploration.plan.entry ≡ Ok start
-            → CoversBelow self.entry.exploration.program self.entry.exploration.plan start (most + 1) }
+            → Covers self.entry.exploration.program self.entry.exploration.plan start (most + 1) }
     {
         let is_covered = self.covers(most);
         Answer {

@@ -65,7 +65,8 @@ impl Batch<'_> {
         let Ok(mut machine) = machine else {
             return Err(AllocError);
         };
-        let added = added_departures(self.alloc, &mut machine, departures, plan.most.turns());
+        let most = plan.most.turns();
+        let added = added_departures(self.alloc, &mut machine, &plan.within, departures, most);
         drop(machine);
         added
     }

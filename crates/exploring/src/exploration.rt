@@ -6,7 +6,7 @@ ghost use Rattle.explore_jobs.specs.Fates.{IsFateOf};
 ghost use Rattle.explore_jobs.specs.Plans.{fits, job_shown};
 ghost use Rattle.exploring.specs.Batches.{AddsChildrenOf, job_at};
 ghost use Rattle.exploring.specs.Counts.{level_of};
-ghost use Rattle.exploring.specs.Explorations.{AreFatesOf, CoversBelow, Explored, IsFurther, IsNextLevel, IsOnWay, children_of_all, first_failing, is_good, is_whole, jobs_at, level_in};
+ghost use Rattle.exploring.specs.Explorations.{AreFatesOf, Covers, Explored, IsFurther, IsNextLevel, IsOnWay, children_of_all, first_failing, is_good, is_whole, jobs_at, level_in};
 ghost use Rattle.exploring.specs.Growths.{AreChildrenIn, IsGrowthOf};
 ghost use Rattle.jvms_machine.specs.Opening.{start_of_entry};
 ghost use Rattle.jvms_machine.specs.Start.{Start};
@@ -18,7 +18,9 @@ use crate::jobs::Jobs;
 use crate::level::Level;
 use departures::Departure;
 use explore_jobs::{Ending, Fate, Plan, job_ending};
-use explore_laws::laws::{departures_make_the_choices_of_a_schedule, jobs_speak_for_all_runs};
+use explore_laws::laws::{
+    departures_make_the_choices_of_a_schedule, jobs_speak_for_all_runs, jobs_speak_for_reduced_runs,
+};
 use program::Program;
 use std::alloc::{AllocError, Global};
 use std::marker::Model;
@@ -181,15 +183,16 @@ impl<'a> Exploration<'a> {
     }
 
     /// Returns whether all levels below this one are whole and have no run that fails. Then no run with fewer departures than
-    /// those of this level fails.
+    /// those of this level fails, of those that the plan covers.
     pub fn covers_below(&self) -> bool
         ensures exact { result ≡ self.now.is_good_below }
         ensures covers { IsTrue result → (start : Start)
             → start_of_entry self.now.program self.now.plan.limits self.now.plan.entry ≡ Ok start
-            → CoversBelow self.now.program self.now.plan start (level_in self.now) }
+            → Covers self.now.program self.now.plan start (level_in self.now) }
     {
         self.program.program_invariant();
         jobs_speak_for_all_runs();
+        jobs_speak_for_reduced_runs();
         self.is_good_below
     }
 
@@ -201,16 +204,17 @@ impl<'a> Exploration<'a> {
     }
 
     /// Returns whether all levels so far are whole, this one among them, and have no run that fails. Then no run with at most
-    /// this number of departures fails.
+    /// this number of departures fails, of those that the plan covers.
     pub fn covers(&self) -> bool
         ensures exact { result ≡ is_good self.now }
         ensures covers { IsTrue result → (start : Start)
             → start_of_entry self.now.program self.now.plan.limits self.now.plan.entry ≡ Ok start
-            → CoversBelow self.now.program self.now.plan start (level_in self.now + 1) }
+            → Covers self.now.program self.now.plan start (level_in self.now + 1) }
     {
         self.program.program_invariant();
         departures_make_the_choices_of_a_schedule();
         jobs_speak_for_all_runs();
+        jobs_speak_for_reduced_runs();
         self.is_good()
     }
 

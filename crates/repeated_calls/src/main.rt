@@ -9,9 +9,11 @@
 //! | `judgements` | a judged run |
 //! | `sessions` | the commands of a session of the debugger |
 //! | `campaigns` | a campaign |
+//! | `explorations` | an exploration, and the shrinking of a schedule |
 #![tactic(auto)]
 
 mod campaigns;
+mod explored;
 mod judgements;
 mod limits;
 mod reading;
@@ -36,6 +38,7 @@ fn perform_part<R: Threads + Wait + Sync>(
         "judgements" => judgements::perform(host, others),
         "sessions" => sessions::perform(host, others),
         "campaigns" => campaigns::perform(host, rt, others),
+        "explorations" => explored::perform(host, rt, others),
         _ => None,
     }
 }

@@ -110,8 +110,8 @@ fn leaves_enabled(turn: Turn, machine: &Machine<'_>, thread: ThreadId, threads: 
         && is_enabled(machine.peek(thread))
 }
 
-/// Takes the turn of the thread that the next random word names, and returns the thread and the outcome. Returns `None`
-/// if no thread is enabled. Then, as on an error, the machine and the items are unchanged.
+/// Takes the turn of the thread that the next random word or the priorities name, and returns the thread and the outcome.
+/// Returns `None` if no thread is enabled. Then, as on an error, the machine and the items are unchanged.
 ///
 /// Fast path of a seeded run: after a quiet turn, inspects its thread alone.
 #[inline(always)]

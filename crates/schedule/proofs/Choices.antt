@@ -6,7 +6,8 @@ use Rattle.std.proofs.lemmas.Option.{slice_get-get_or}
 use Rattle.std.proofs.lemmas.Bool.Decides.{nat_tests}
 use Rattle.rand_pcg.specs.Pcg.{pcg32}
 use Rattle.schedule.specs.Schedules as schedules
-use Rattle.schedule.specs.Choosers.{Alone, Chooser, Listed, RoundRobin, Seeded, Staying, chooser_of_schedule, next, asks, stays, round_robin, next_of, turns_with, after_choice, generator_of, words_of}
+use Rattle.schedule.specs.Choosers.{Alone, Chooser, Listed, Ranked, RoundRobin, Seeded, Staying, chooser_of_schedule, next, asks, stays, round_robin, next_of, turns_with, after_choice, generator_of, words_of}
+use Rattle.schedule.proofs.Priorities.{ranked_is_enabled, some_is_ranked}
 use Rattle.schedule.specs.Past.{last_of, consecutive_choices, round_robin_after, choice_after, with_choice}
 
 -- ---- Enabled threads
@@ -69,6 +70,7 @@ chosen_is_enabled (Seeded generator) [] h = tt
 chosen_is_enabled (Seeded generator) (t ∷ ts) h = contains_at (t ∷ ts) ((pcg32 generator).0 % length (t ∷ ts))
 chosen_is_enabled Alone enabled h = absurd (not_true h)
 chosen_is_enabled (Staying before last departures) enabled h = absurd (not_true h)
+chosen_is_enabled (Ranked ranking) enabled h = ranked_is_enabled ranking enabled
 
 round_without : (b : Bool) (thread : ℕ) → (if (b && false) then Some thread else next_of thread []) ≡ None
 round_without true thread = refl
@@ -93,6 +95,8 @@ none_is_enabled (Seeded generator) (t ∷ ts) h =
     (λ none. absurd (not_true (sym (rw there at none))), λ e. absurd (omega (arith, ap length e)))
 none_is_enabled Alone enabled h = absurd (not_true h)
 none_is_enabled (Staying before last departures) enabled h = absurd (not_true h)
+none_is_enabled (Ranked ranking) [] h = (λ _. refl, λ _. refl)
+none_is_enabled (Ranked ranking) (t ∷ ts) h = (λ none. absurd (some_is_ranked ranking t ts none), λ e. absurd (omega (arith, ap length e)))
 
 -- ---- Turns in a row
 

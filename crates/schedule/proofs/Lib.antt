@@ -2,8 +2,10 @@ mod Alone
 mod Beside
 mod Candidates
 mod Choices
+mod Colons
 mod Departures
 mod Positions
+mod Priorities
 pub mod Ranges
 mod Spelling
 mod Stays

@@ -6,7 +6,8 @@ use Rattle.schedule.specs.declared.fault.ScheduleFault.{ScheduleFault}
 use Rattle.schedule.specs.declared.fault.ScheduleFault.TheVariants.{Syntax, Memory}
 use Rattle.schedule.specs.Listable.{departure_lacks_comma, one_departure, one_thread, thread_lacks_comma}
 use Rattle.schedule.specs.Parts.{Lacks, numeral_lacks}
-use Rattle.schedule.specs.Schedules.{Schedule, Listed, RoundRobin, Seeded, Staying, Spells, SpellsListOrDepartures, WritesDeparture, WritesDepartures, WritesNumber, WritesQuantum, WritesSeed, WritesThread, WritesThreads}
+use Rattle.schedule.specs.Schedules.{Schedule, Listed, Ranked, RoundRobin, Seeded, Staying, Spells, SpellsListOrDepartures, WritesDeparture, WritesDepartures, WritesNumber, WritesQuantum, WritesRanking, WritesSeed, WritesThread, WritesThreads}
+use Rattle.schedule.proofs.Colons.{same_ranking}
 use Rattle.schedule.proofs.Texts.{numerals_are_cut, numerals_have_byte, same_list}
 
 -- Returns the bytes with which the spelling of a list begins.
@@ -25,6 +26,10 @@ seed_kind = codes "seed:"
 abbrev pub stay_kind : List ℕ
 stay_kind = codes "stay:"
 
+-- Returns the bytes with which the spelling of priorities begins.
+abbrev pub rank_kind : List ℕ
+rank_kind = codes "pct:"
+
 -- Any two kinds differ in their second bytes.
 other_kind : (text first second : List ℕ) → text ≡ first → text ≡ second → get_or first 1 0 ≢ get_or second 1 0 → ⊥
 other_kind text first second e f differ = differ (ap (λ l. get_or l 1 0) (sym e ∙ f))
@@ -36,6 +41,7 @@ list_only text rest (Listed threads) e (own, written, f) =
 list_only text rest (RoundRobin quantum) e (own, written, f) = absurd (other_kind text (list_kind ++ rest) (round_kind ++ own) e f (λ h. omega (arith, h)))
 list_only text rest (Seeded state stream) e (own, written, f) = absurd (other_kind text (list_kind ++ rest) (seed_kind ++ own) e f (λ h. omega (arith, h)))
 list_only text rest (Staying departures) e (own, written, f) = absurd (other_kind text (list_kind ++ rest) (stay_kind ++ own) e f (λ h. omega (arith, h)))
+list_only text rest (Ranked state stream depth turns) e (own, written, f) = absurd (other_kind text (list_kind ++ rest) (rank_kind ++ own) e f (λ h. omega (arith, h)))
 
 pub round_only : (text rest : List ℕ) (s : Schedule) → text ≡ round_kind ++ rest → Spells text s → (quantum : ℕ) × (s ≡ RoundRobin quantum) × WritesQuantum rest quantum
 round_only text rest (Listed threads) e (own, written, f) = absurd (other_kind text (round_kind ++ rest) (list_kind ++ own) e f (λ h. omega (arith, h)))
@@ -44,6 +50,7 @@ round_only text rest (RoundRobin quantum) e (own, written, f) =
     (quantum, refl, subst P (append_cancel_left round_kind own rest (sym f ∙ e)) written)
 round_only text rest (Seeded state stream) e (own, written, f) = absurd (other_kind text (round_kind ++ rest) (seed_kind ++ own) e f (λ h. omega (arith, h)))
 round_only text rest (Staying departures) e (own, written, f) = absurd (other_kind text (round_kind ++ rest) (stay_kind ++ own) e f (λ h. omega (arith, h)))
+round_only text rest (Ranked state stream depth turns) e (own, written, f) = absurd (other_kind text (round_kind ++ rest) (rank_kind ++ own) e f (λ h. omega (arith, h)))
 
 pub seed_only : (text rest : List ℕ) (s : Schedule) → text ≡ seed_kind ++ rest → Spells text s → (state : ℕ) × (stream : ℕ) × (s ≡ Seeded state stream) × WritesSeed rest state stream
 seed_only text rest (Listed threads) e (own, written, f) = absurd (other_kind text (seed_kind ++ rest) (list_kind ++ own) e f (λ h. omega (arith, h)))
@@ -52,6 +59,7 @@ seed_only text rest (Seeded state stream) e (own, written, f) =
     let P : List ℕ → Type 0 = λ r. WritesSeed r state stream in
     (state, stream, refl, subst P (append_cancel_left seed_kind own rest (sym f ∙ e)) written)
 seed_only text rest (Staying departures) e (own, written, f) = absurd (other_kind text (seed_kind ++ rest) (stay_kind ++ own) e f (λ h. omega (arith, h)))
+seed_only text rest (Ranked state stream depth turns) e (own, written, f) = absurd (other_kind text (seed_kind ++ rest) (rank_kind ++ own) e f (λ h. omega (arith, h)))
 
 pub stay_only : (text rest : List ℕ) (s : Schedule) → text ≡ stay_kind ++ rest → Spells text s → (departures : List Departure) × (s ≡ Staying departures) × WritesDepartures rest departures
 stay_only text rest (Listed threads) e (own, written, f) = absurd (other_kind text (stay_kind ++ rest) (list_kind ++ own) e f (λ h. omega (arith, h)))
@@ -60,6 +68,17 @@ stay_only text rest (Seeded state stream) e (own, written, f) = absurd (other_ki
 stay_only text rest (Staying departures) e (own, written, f) =
     let P : List ℕ → Type 0 = λ r. WritesDepartures r departures in
     (departures, refl, subst P (append_cancel_left stay_kind own rest (sym f ∙ e)) written)
+stay_only text rest (Ranked state stream depth turns) e (own, written, f) = absurd (other_kind text (stay_kind ++ rest) (rank_kind ++ own) e f (λ h. omega (arith, h)))
+
+pub rank_only : (text rest : List ℕ) (s : Schedule) → text ≡ rank_kind ++ rest → Spells text s
+    → (state : ℕ) × (stream : ℕ) × (depth : ℕ) × (turns : ℕ) × (s ≡ Ranked state stream depth turns) × WritesRanking rest state stream depth turns
+rank_only text rest (Listed threads) e (own, written, f) = absurd (other_kind text (rank_kind ++ rest) (list_kind ++ own) e f (λ h. omega (arith, h)))
+rank_only text rest (RoundRobin quantum) e (own, written, f) = absurd (other_kind text (rank_kind ++ rest) (round_kind ++ own) e f (λ h. omega (arith, h)))
+rank_only text rest (Seeded state stream) e (own, written, f) = absurd (other_kind text (rank_kind ++ rest) (seed_kind ++ own) e f (λ h. omega (arith, h)))
+rank_only text rest (Staying departures) e (own, written, f) = absurd (other_kind text (rank_kind ++ rest) (stay_kind ++ own) e f (λ h. omega (arith, h)))
+rank_only text rest (Ranked state stream depth turns) e (own, written, f) =
+    let P : List ℕ → Type 0 = λ r. WritesRanking r state stream depth turns in
+    (state, stream, depth, turns, refl, subst P (append_cancel_left rank_kind own rest (sym f ∙ e)) written)
 
 -- A text begins with a kind, by the clauses of `strip_prefix`.
 pub begins : (kind text rest : List ℕ) (n : ℕ) → text ≡ kind ++ drop n text → rest ≡ drop n text → text ≡ kind ++ rest
@@ -135,3 +154,8 @@ same_schedule text (Seeded state stream) b (rest, written, e) other =
 same_schedule text (Staying ds) b (rest, written, e) other =
     let found = stay_only text rest b e other in
     ap Staying (same_list WritesDeparture some_departure departure_lacks_comma one_departure rest ds found.0 written.0 found.2.0) ∙ sym found.1
+same_schedule text (Ranked state stream depth turns) b (rest, written, e) other =
+    let found = rank_only text rest b e other in
+    let same = same_ranking rest state stream depth turns found.0 found.1 found.2 found.3 written found.5 in
+    ap (λ x. Ranked x stream depth turns) same.0 ∙ ap (λ x. Ranked found.0 x depth turns) same.1 ∙ ap (λ x. Ranked found.0 found.1 x turns) same.2
+    ∙ ap (λ x. Ranked found.0 found.1 found.2 x) same.3 ∙ sym found.4

@@ -9,7 +9,7 @@ use Rattle.std.proofs.lemmas.List.Splits.{join_with_byte-slice_split}
 use Rattle.std.proofs.lemmas.Slice.Zip.{all_zipped_more}
 use Rattle.std.proofs.lemmas.Bool.Decides.{nat_tests}
 use Rattle.schedule.specs.Lists.{IsLastOf}
-use Rattle.schedule.specs.Parts.{Lacks, first_part, one_part, parts_at, two_parts}
+use Rattle.schedule.specs.Parts.{Lacks, first_part, numeral_lacks, one_part, parts_at}
 use Rattle.schedule.specs.Schedules.{WritesList}
 
 pub lacks : (byte : ℕ) (text : List ℕ) → ((i : ℕ) → i < length text → get_or text i 0 ≢ byte) → Lacks byte text
@@ -23,22 +23,36 @@ tail_same a b ps qs e = cc
 head_same : (a b : List ℕ) (ps qs : List (List ℕ)) → a ∷ ps ≡ b ∷ qs → a ≡ b
 head_same a b ps qs e = cc
 
+-- A text is cut at the first occurrence of a byte in one way.
+pub cut_once : (byte : ℕ) (text front back first second : List ℕ) → text ≡ front ++ byte ∷ back → Lacks byte front → text ≡ first ++ byte ∷ second → Lacks byte first
+    → (front ≡ first) × (back ≡ second)
+cut_once byte text front back first second e none f lacking =
+    let cut : front ∷ parts_at byte back ≡ first ∷ parts_at byte second =
+    sym (ap (parts_at byte) e ∙ first_part byte front back none) ∙ ap (parts_at byte) f ∙ first_part byte first second lacking in (
+      head_same front first (parts_at byte back) (parts_at byte second) cut,
+      sym (join_with_byte-slice_split byte back) ∙ ap (join_with_byte byte) (tail_same front first (parts_at byte back) (parts_at byte second) cut)
+          ∙ join_with_byte-slice_split byte second,
+    )
+
 -- If a text of two numerals is cut at the first occurrence of the byte between them, its parts are the numerals.
 pub numerals_are_cut : (byte : ℕ) (text front back first second : List ℕ) → (byte < 48) ⊎ (57 < byte) → text ≡ front ++ byte ∷ back → Lacks byte front
     → IsNumeral 10 first → IsNumeral 10 second → text ≡ first ++ byte ∷ second → (front ≡ first) × (back ≡ second)
 numerals_are_cut byte text front back first second other e none one two f =
-    let cut : front ∷ parts_at byte back ≡ first ∷ second ∷ [] =
-    sym (ap (parts_at byte) e ∙ first_part byte front back none) ∙ two_parts byte text first second other one two f in (
-      head_same front first (parts_at byte back) (second ∷ []) cut,
-      sym (join_with_byte-slice_split byte back) ∙ ap (join_with_byte byte) (tail_same front first (parts_at byte back) (second ∷ []) cut),
-    )
+    cut_once byte text front back first second e none f (numeral_lacks byte first one other)
+
+-- A text in which a byte doesn't occur isn't cut at it.
+pub never_cut : (byte : ℕ) (text first second : List ℕ) → Lacks byte text → text ≡ first ++ byte ∷ second → Lacks byte first → ⊥
+never_cut byte text first second none f lacking =
+    let cut : text ∷ [] ≡ first ∷ parts_at byte second = sym (one_part byte text none) ∙ ap (parts_at byte) f ∙ first_part byte first second lacking in
+    let no_parts : [] ≡ parts_at byte second = tail_same text first [] (parts_at byte second) cut in
+    let empty : [] ≡ second = ap (join_with_byte byte) no_parts ∙ join_with_byte-slice_split byte second in
+    let never : [] ≡ parts_at byte [] = no_parts ∙ ap (parts_at byte) (sym empty) in
+    absurd (omega (arith, ap length never))
 
 -- A text of two numerals has the byte between them.
 pub numerals_have_byte : (byte : ℕ) (text first second : List ℕ) → (byte < 48) ⊎ (57 < byte) → Lacks byte text → IsNumeral 10 first → IsNumeral 10 second
     → text ≡ first ++ byte ∷ second → ⊥
-numerals_have_byte byte text first second other none one two f =
-    let cut : text ∷ [] ≡ first ∷ second ∷ [] = sym (one_part byte text none) ∙ two_parts byte text first second other one two f in
-    absurd (omega (arith, ap length (tail_same text first [] (second ∷ []) cut)))
+numerals_have_byte byte text first second other none one two f = never_cut byte text first second none f (numeral_lacks byte first one other)
 
 -- ---- Lists of values
 

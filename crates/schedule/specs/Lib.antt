@@ -5,5 +5,6 @@ pub mod Lists
 pub mod Parts
 pub mod Past
 pub mod Positions
+pub mod Rankings
 pub mod Rules
 pub mod Schedules

@@ -5,7 +5,7 @@ use Rattle.schedule.specs.declared.chooser.Rule.{Rule}
 use Rattle.schedule.specs.declared.chooser.Rule.TheVariants as rule
 use Rattle.schedule.specs.declared.staying.Staying.{Staying}
 use Rattle.schedule.specs.Choosers as choosers
-use Rattle.schedule.specs.Choosers.{Alone, Chooser, Listed, RoundRobin, Seeded}
+use Rattle.schedule.specs.Choosers.{Alone, Chooser, Listed, Ranked, RoundRobin, Seeded}
 
 -- Returns the departures that are left.
 abbrev pub departures_left : Staying → List Departure
@@ -30,3 +30,4 @@ chooser_of_rule (rule.RoundRobin turns) = RoundRobin turns.quantum turns.thread 
 chooser_of_rule (rule.Seeded generator) = Seeded generator
 chooser_of_rule rule.Alone = Alone
 chooser_of_rule (rule.Staying departures) = chooser_of_departures departures
+chooser_of_rule (rule.Ranked ranking) = Ranked ranking

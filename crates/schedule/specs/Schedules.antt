@@ -14,6 +14,9 @@ pub data Schedule : Type 0 where
   Seeded : ℕ → ℕ → Schedule
   -- These departures, and the default everywhere else.
   Staying : List Departure → Schedule
+  -- The enabled thread of the highest priority. A generator's state and stream, a depth and a number of turns determine
+  -- the priorities and their changes.
+  Ranked : ℕ → ℕ → ℕ → ℕ → Schedule
 
 -- The text writes this number in decimal digits. Leading zeros are allowed.
 abbrev pub WritesNumber : List ℕ → ℕ → Type 0
@@ -56,12 +59,33 @@ AreRising (d ∷ ds) = All (λ later. d.position < later.position) ds × AreRisi
 abbrev pub WritesDepartures : List ℕ → List Departure → Type 0
 WritesDepartures text departures = WritesList WritesDeparture text departures × AreRising departures
 
--- The text spells the schedule: `list:`, `rr:`, `seed:` or `stay:`, followed by its numbers.
+-- The text writes a depth, from 1 to 64.
+abbrev pub WritesDepth : List ℕ → ℕ → Type 0
+WritesDepth text depth = WritesNumber text depth × (1 ≤ depth) × (depth ≤ 64)
+
+-- The text writes a number of turns, from 1 to 2^32.
+abbrev pub WritesTurns : List ℕ → ℕ → Type 0
+WritesTurns text turns = WritesNumber text turns × (1 ≤ turns) × (turns ≤ 4294967296)
+
+-- The text writes a depth and a number of turns, separated by a colon.
+abbrev pub WritesChanges : List ℕ → ℕ → ℕ → Type 0
+WritesChanges text depth turns =
+    (first : List ℕ) × (second : List ℕ) × WritesDepth first depth × WritesTurns second turns × (text ≡ first ++ 58 ∷ second)
+
+-- The text writes a generator's state and its stream, both below 2^64, a depth and a number of turns, separated by colons.
+abbrev pub WritesRanking : List ℕ → ℕ → ℕ → ℕ → ℕ → Type 0
+WritesRanking text state stream depth turns =
+    (first : List ℕ) × (second : List ℕ) × (rest : List ℕ) × WritesNumber first state × WritesNumber second stream
+    × (state < 2 ^ 64) × (stream < 2 ^ 64) × WritesChanges rest depth turns × (text ≡ first ++ 58 ∷ (second ++ 58 ∷ rest))
+
+-- The text spells the schedule: `list:`, `rr:`, `seed:`, `stay:` or `pct:`, followed by its numbers.
 abbrev pub Spells : List ℕ → Schedule → Type 0
 Spells text (Listed threads) = (rest : List ℕ) × WritesThreads rest threads × (text ≡ codes "list:" ++ rest)
 Spells text (RoundRobin quantum) = (rest : List ℕ) × WritesQuantum rest quantum × (text ≡ codes "rr:" ++ rest)
 Spells text (Seeded state stream) = (rest : List ℕ) × WritesSeed rest state stream × (text ≡ codes "seed:" ++ rest)
 Spells text (Staying departures) = (rest : List ℕ) × WritesDepartures rest departures × (text ≡ codes "stay:" ++ rest)
+Spells text (Ranked state stream depth turns) =
+    (rest : List ℕ) × WritesRanking rest state stream depth turns × (text ≡ codes "pct:" ++ rest)
 
 -- The text spells a list or departures.
 abbrev pub SpellsListOrDepartures : List ℕ → Type 0

@@ -10,12 +10,14 @@ ghost use Rattle.schedule.specs.Choosers.{chooser_of_schedule, enabled_of, by_wo
 use crate::fault::ScheduleFault;
 use crate::list::ListLeft;
 use crate::numbers::{long_number, quantum};
+use crate::ranked::Ranked;
 use crate::round_robin::{Candidate, Turns};
 use crate::staying::Staying;
 use crate::threads::{Threads, alone, enabled_at, enabled_count};
 use departures::Departure;
 use jvms_machine::machine::ThreadId;
 use machine::Machine;
+use priority_limits::{Depth, Span};
 use rand_core::utils::NextWord;
 use rand_pcg::Lcg64Xsh32;
 use std::alloc::{AllocError, Global};
@@ -34,6 +36,8 @@ enum Rule {
     Alone,
     /// Departures from a default.
     Staying(Staying),
+    /// The enabled thread of the highest priority.
+    Ranked(Ranked),
 }
 
 /// The state of a schedule, which gives the thread of each turn.
@@ -87,6 +91,10 @@ fn rule_of(alloc: Global, text: &str) -> Result<Rule, ScheduleFault>
             thread: 0,
             turns: 0,
         }));
+    }
+    if let Some(numbers) = text.strip_prefix("pct:") {
+        let ranked = Ranked::parse(numbers).ok_or(ScheduleFault::Syntax)?;
+        return Ok(Rule::Ranked(ranked));
     }
     let Some(seed) = text.strip_prefix("seed:") else {
         return Err(ScheduleFault::Syntax);
@@ -145,6 +153,7 @@ impl Rule {
             Rule::Seeded(generator) => Ok(Rule::Seeded(generator.clone()?)),
             Rule::Alone => Ok(Rule::Alone),
             Rule::Staying(staying) => Ok(Rule::Staying(staying.copy()?)),
+            Rule::Ranked(ranked) => Ok(Rule::Ranked(ranked.copy())),
         }
     }
 }
@@ -174,6 +183,16 @@ impl Chooser {
         }
     }
 
+    /// Returns the chooser of the schedule `pct:S:K:D:N`: random words of state S and stream K name the priorities of
+    /// threads, and the turns below N after which D - 1 changes are made.
+    pub fn ranked(state: u64, stream: u64, depth: Depth, turns: Span) -> Chooser
+        ensures { result ≡ chooser_of_schedule (schedules.Ranked state stream depth turns) }
+    {
+        Chooser {
+            rule: Rule::Ranked(Ranked::new(state, stream, depth.number(), turns.turns())),
+        }
+    }
+
     /// Returns the chooser that gives thread 0 while it is enabled, and no other. No text spells this schedule.
     pub fn alone() -> Chooser
         ensures { result ≡ Alone }
@@ -200,7 +219,9 @@ impl Chooser {
     /// - `rr:Q` with a quantum Q from 1 to 1,000,000,
     /// - `seed:S:K` with a state S and a stream K below 2^64,
     /// - `stay:` and departures `N=T`, separated by commas, maybe none: positions N below 2^64, each above the one before,
-    ///   and threads T up to 4,294,967,295.
+    ///   and threads T up to 4,294,967,295,
+    /// - `pct:S:K:D:N` with a state S and a stream K below 2^64, a depth D from 1 to 64, and a number of turns N from 1 to
+    ///   4,294,967,296.
     ///
     /// Numbers are decimal digits. Leading zeros are allowed.
     ///
@@ -242,18 +263,19 @@ impl Chooser {
             Rule::Seeded(generator) => next_by_word(generator, threads),
             Rule::Alone => alone(threads),
             Rule::Staying(staying) => staying.next(threads),
+            Rule::Ranked(ranked) => ranked.next(threads),
         }
     }
 
-    /// Returns whether random words name the threads.
+    /// Returns whether random words name the threads, or their priorities do.
     pub fn is_seeded(&self) -> bool
         ensures { result ≡ is_seeded self.now }
     {
-        matches!(self.rule, Rule::Seeded(_))
+        matches!(self.rule, Rule::Seeded(_) | Rule::Ranked(_))
     }
 
-    /// Returns the thread that the next random word names among the enabled threads, which are listed in rising order.
-    /// Without an enabled thread, takes no word and returns `None`.
+    /// Returns the thread that the next random word or the priorities name among the enabled threads, which are listed in
+    /// rising order. Without an enabled thread, takes no word and returns `None`.
     pub fn next_by_word(&mut self, enabled: &[ThreadId]) -> Option<ThreadId>
         requires { IsTrue (is_seeded self.old) }
         ensures choice { result ≡ (next self.old enabled.now).0 }
@@ -262,6 +284,7 @@ impl Chooser {
     {
         match &mut self.rule {
             Rule::Seeded(generator) => word_among(generator, enabled),
+            Rule::Ranked(ranked) => ranked.next_among(enabled),
             Rule::Listed(_) | Rule::RoundRobin(_) | Rule::Alone | Rule::Staying(_) => None,
         }
     }
@@ -275,6 +298,8 @@ impl Chooser {
     /// - The chooser of thread 0 alone gives thread 0 while it is enabled.
     /// - `stay:N=T,N=T..` gives T at position N, enabled or not, and no further choice if it isn't. Elsewhere it gives the
     ///   last thread while it is enabled, else the next enabled thread by rising number, round to the least.
+    /// - `pct:S:K:D:N` gives the enabled thread of the highest priority. After each of D - 1 random turns below N, the
+    ///   thread of that turn gets a priority below all random ones.
     pub fn next(&mut self, machine: &Machine<'_>) -> Option<ThreadId>
         ensures choice { result ≡ (next self.old (enabled_threads machine.now)).0 }
         ensures after { self.new ≡ (next self.old (enabled_threads machine.now)).1 }
@@ -287,7 +312,7 @@ impl Chooser {
     ///
     /// `rr:Q` predicts the only thread, or the last thread for its remaining turns, else the thread after it. The
     /// chooser of thread 0 alone predicts that. `stay:N=T,N=T..` predicts the last thread for the turns before the next
-    /// departure, and nothing at a departure. Lists and random words predict nothing.
+    /// departure, and nothing at a departure. Lists, random words and priorities predict nothing.
     pub fn candidate(&self, machine: &Machine<'_>) -> Option<Candidate>
         ensures next { IfSome result
             (λ c. IsNextFor c.turns c.thread (length machine.now.state.threads) self.now) }
@@ -297,7 +322,7 @@ impl Chooser {
             Rule::RoundRobin(turns) => turns.candidate(machine),
             Rule::Alone => candidate_alone(machine),
             Rule::Staying(staying) => staying.candidate(machine),
-            Rule::Listed(_) | Rule::Seeded(_) => None,
+            Rule::Listed(_) | Rule::Seeded(_) | Rule::Ranked(_) => None,
         }
     }
 
@@ -315,19 +340,19 @@ impl Chooser {
         match &self.rule {
             Rule::RoundRobin(turns) => turns.candidate_beside(machine.count(), idle),
             Rule::Staying(staying) => staying.candidate_beside(machine.count(), idle),
-            Rule::Listed(_) | Rule::Seeded(_) | Rule::Alone => None,
+            Rule::Listed(_) | Rule::Seeded(_) | Rule::Alone | Rule::Ranked(_) => None,
         }
     }
 
     /// Counts consecutive choices of a thread that was predicted and was enabled each time.
-    #[tactic(auto, using(crate::proofs::Candidates::listed_stays, crate::proofs::Candidates::seeded_stays, crate::proofs::Alone::alone_stays))]
+    #[tactic(auto, using(crate::proofs::Candidates::listed_stays, crate::proofs::Candidates::seeded_stays, crate::proofs::Alone::alone_stays, crate::proofs::Priorities::ranked_stays))]
     pub fn count(&mut self, chosen: ThreadId, times: u64)
         ensures { self.new ≡ with_choices times chosen self.old }
     {
         match &mut self.rule {
             Rule::RoundRobin(turns) => turns.count_times(chosen, times),
             Rule::Staying(staying) => staying.count_times(chosen, times),
-            Rule::Listed(_) | Rule::Seeded(_) | Rule::Alone => {}
+            Rule::Listed(_) | Rule::Seeded(_) | Rule::Alone | Rule::Ranked(_) => {}
         }
     }
 }

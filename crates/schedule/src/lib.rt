@@ -6,6 +6,7 @@ mod fault;
 pub mod laws;
 mod list;
 mod numbers;
+mod ranked;
 mod round_robin;
 mod staying;
 mod threads;

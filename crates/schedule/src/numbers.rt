@@ -3,7 +3,7 @@
 ghost use Rattle.std.specs.Prelude.{ℕ, ◌≡◌, ◌^◌, ◌<◌, MatchOption};
 ghost use Rattle.std.specs.Option.{SomeIff};
 ghost use Rattle.std.specs.Str.Parse.{IsNumeral, digits_value};
-ghost use Rattle.schedule.specs.Schedules.{WritesThread, WritesQuantum};
+ghost use Rattle.schedule.specs.Schedules.{WritesDepth, WritesQuantum, WritesThread, WritesTurns};
 
 use jvms_machine::machine::ThreadId;
 
@@ -45,6 +45,32 @@ pub(crate) fn quantum(text: &str) -> Option<u32>
     let quantum = short_number(text)?;
     if 1 <= quantum && quantum <= 1_000_000 {
         Some(quantum)
+    } else {
+        None
+    }
+}
+
+/// Returns the depth that a text writes, if it writes one from 1 to 64.
+pub(crate) fn depth(text: &str) -> Option<u32>
+    ensures { MatchOption result ((depth : ℕ) → ¬ (WritesDepth text.now depth))
+        (WritesDepth text.now) }
+{
+    let depth = short_number(text)?;
+    if 1 <= depth && depth <= 64 {
+        Some(depth)
+    } else {
+        None
+    }
+}
+
+/// Returns the number of turns that a text writes, if it writes one from 1 to 2^32.
+pub(crate) fn turns(text: &str) -> Option<u64>
+    ensures { MatchOption result ((turns : ℕ) → ¬ (WritesTurns text.now turns))
+        (WritesTurns text.now) }
+{
+    let turns = long_number(text)?;
+    if 1 <= turns && turns <= 4_294_967_296 {
+        Some(turns)
     } else {
         None
     }

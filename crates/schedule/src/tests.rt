@@ -148,6 +148,44 @@ fn refuses_what_writes_no_departures(rt: HostRuntime) -> Result<(), Fail> {
 }
 
 #[test]
+fn refuses_what_writes_no_priorities(rt: HostRuntime) -> Result<(), Fail> {
+    let texts = [
+        "pct",
+        "pct:",
+        "pct:1",
+        "pct:1:2",
+        "pct:1:2:3",
+        "pct:1:2:3:",
+        "pct:1:2::4",
+        "pct:1::3:4",
+        "pct::2:3:4",
+        "pct:1:2:3:4:5",
+        "pct:1:2:0:4",
+        "pct:1:2:65:4",
+        "pct:1:2:3:0",
+        "pct:1:2:3:4294967297",
+        "pct:18446744073709551616:2:3:4",
+        "pct:1:18446744073709551616:3:4",
+        "pct:1:2:4294967299:4",
+        "pct:1:2:3:18446744073709551620",
+        "pct:+1:2:3:4",
+        "pct:1:2:+3:4",
+        "pct:1:2:3:+4",
+        "pct:1:2:3:-4",
+        "pct: 1:2:3:4",
+        "pct:1:2:3:4 ",
+        "pct:1,2,3,4",
+        "pct:1:2:a:4",
+        "Pct:1:2:3:4",
+        "pct:1:2:3:4\n",
+    ];
+    for text in texts {
+        assert!(rt; matches!(Chooser::parse(rt.alloc(), text), Err(ScheduleFault::Syntax)));
+    }
+    Ok(())
+}
+
+#[test]
 fn a_list_gives_its_threads(rt: HostRuntime) -> Result<(), Fail> {
     let alloc = rt.alloc();
     let none: &[bool] = &[];
@@ -378,5 +416,95 @@ fn departures_make_a_chooser(rt: HostRuntime) -> Result<(), Fail> {
     for chosen in [0, 2, 0, 0] {
         assert_eq!(rt; chooser.choose(&Flags { enabled, count: 3 }), Some(chosen));
     }
+    Ok(())
+}
+
+/// Expects the threads 5, 4, 2, 0, 3 and 1 in falling order of the words of PCG's demonstration.
+#[test]
+fn the_highest_priority_is_chosen(rt: HostRuntime) -> Result<(), Fail> {
+    let all: &[bool] = &[true; 6];
+    let turns = [
+        (all, Some(5)),
+        (all, Some(5)),
+        (&[true, true, true, true, true, false], Some(4)),
+        (&[true, true, true, true], Some(2)),
+        (&[true, true, false, true], Some(0)),
+        (&[false, true, false, true, false, false], Some(3)),
+        (&[false, true, false, false, false, false], Some(1)),
+        (&[false; 6], None),
+        (all, Some(5)),
+    ];
+    are_chosen(&rt, rt.alloc(), "pct:42:54:1:1", &turns)?;
+    are_chosen(
+        &rt,
+        rt.alloc(),
+        "pct:0042:9223372036854775862:01:4294967296",
+        &turns,
+    )
+}
+
+/// Expects changes at turns that are words of PCG's demonstration modulo N. The words after them order the threads.
+#[test]
+fn changes_move_the_threads_of_their_turns(rt: HostRuntime) -> Result<(), Fail> {
+    let all: &[bool] = &[true; 4];
+    // The first change is at turn 3, and the second at turn 2.
+    let turns = [
+        (all, Some(3)),
+        (all, Some(3)),
+        (all, Some(3)),
+        (all, Some(2)),
+        (all, Some(0)),
+        (&[false, true, true, true], Some(1)),
+        (&[false, false, true, true], Some(3)),
+        (&[false, false, true, false], Some(2)),
+    ];
+    are_chosen(&rt, rt.alloc(), "pct:42:54:3:5", &turns)?;
+    // The first change is at turn 3, and the second at turn 7.
+    let turns = [
+        (all, Some(3)),
+        (all, Some(3)),
+        (all, Some(3)),
+        (all, Some(3)),
+        (all, Some(2)),
+        (all, Some(2)),
+        (all, Some(2)),
+        (all, Some(2)),
+        (all, Some(0)),
+        (&[false, false, true, true], Some(2)),
+        (&[false, false, false, true], Some(3)),
+    ];
+    are_chosen(&rt, rt.alloc(), "pct:42:54:3:10", &turns)?;
+    // Both changes are at turn 1.
+    let turns = [(all, Some(3)), (all, Some(3)), (all, Some(2))];
+    are_chosen(&rt, rt.alloc(), "pct:42:54:3:2", &turns)
+}
+
+#[test]
+fn a_turn_without_a_thread_is_not_counted(rt: HostRuntime) -> Result<(), Fail> {
+    let all: &[bool] = &[true; 4];
+    let none: &[bool] = &[false; 4];
+    let turns = [
+        (none, None),
+        (all, Some(3)),
+        (none, None),
+        (all, Some(3)),
+        (none, None),
+        (all, Some(1)),
+        (&[false, false, false, true], Some(3)),
+    ];
+    are_chosen(&rt, rt.alloc(), "pct:42:54:2:2", &turns)
+}
+
+#[test]
+fn a_list_of_enabled_threads_has_the_same_choices(rt: HostRuntime) -> Result<(), Fail> {
+    let mut chooser = Chooser::parse(rt.alloc(), "pct:42:54:3:5")?;
+    for chosen in [3, 3, 3, 2] {
+        assert_eq!(rt; chooser.is_seeded(), true);
+        assert_eq!(rt; chooser.next_by_word(&[0, 1, 2, 3]), Some(chosen));
+    }
+    assert_eq!(rt; chooser.is_seeded(), true);
+    assert_eq!(rt; chooser.next_by_word(&[]), None);
+    assert_eq!(rt; chooser.is_seeded(), true);
+    assert_eq!(rt; chooser.next_by_word(&[1, 2, 3]), Some(1));
     Ok(())
 }

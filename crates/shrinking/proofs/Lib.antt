@@ -1,3 +1,5 @@
+mod FirstWays
+mod Further
 mod Left
 mod Named
 mod Tests

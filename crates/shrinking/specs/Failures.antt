@@ -34,3 +34,7 @@ failure_of fate = find (λ way. is_of way fate) ways
 abbrev pub fails_by : ℕ → Failure → Fate → Bool
 fails_by most failure.Running fate = is_of failure.Running fate && (fate.result.turns == most)
 fails_by most way fate = is_of way fate
+
+-- Returns the first way in which the run of a job of at most this number of turns fails, if it fails.
+abbrev pub failure_of_job : ℕ → Fate → Option Failure
+failure_of_job most fate = find (λ way. fails_by most way fate) ways

@@ -1,4 +1,5 @@
 pub mod Failures
+pub mod Further
 pub mod Least
 pub mod Parts
 pub mod Searches

@@ -1,8 +1,8 @@
 //! Ways in which a run fails.
 
-ghost use Rattle.std.specs.Prelude.{◌≡◌, is_some};
+ghost use Rattle.std.specs.Prelude.{◌≡◌, IfSome, is_some, true};
 ghost use Rattle.explore_jobs.specs.Fates.{fails};
-ghost use Rattle.shrinking.specs.Failures.{failure_of, fails_by, is_of};
+ghost use Rattle.shrinking.specs.Failures.{failure_of, failure_of_job, fails_by, is_of};
 
 use explore_jobs::Fate;
 use machine::Status;
@@ -66,6 +66,21 @@ impl Failure {
             Failure::Cycle | Failure::Uncaught | Failure::Deadlocked | Failure::Stalled => {
                 self.is_of(fate)
             }
+        }
+    }
+
+    /// Returns the first way in which the run of a job of at most `most` turns fails, in the order of the ways, or `None` if
+    /// it doesn't fail. `Running` counts as `is_of_job` says.
+    #[tactic(auto, using(crate::proofs::FirstWays::first_of_job))]
+    pub fn of_job(fate: Fate, most: TurnLimit) -> Option<Failure>
+        ensures first { result ≡ failure_of_job most fate }
+        ensures fails { IfSome result (λ way. fails_by most way fate ≡ true) }
+    {
+        let way = Failure::of(fate)?;
+        if way.is_of_job(fate, most) {
+            Some(way)
+        } else {
+            None
         }
     }
 }

@@ -7,7 +7,7 @@ use super::{Campaign, SharedBook};
 use atom_spec::Spec;
 use campaign_book::Book;
 use campaign_desk::{Claim, Desk, Seat};
-use campaign_jobs::Plan;
+use campaign_jobs::{Choosing, Plan};
 use jvms_machine::machine::{Entry, Limits};
 use linker::link;
 use program::Program;
@@ -139,6 +139,7 @@ fn plan_of_three(alloc: Global) -> Result<Plan, Fail> {
         jobs: 3,
         first: 0,
         seed: 0,
+        choosing: Choosing::Random,
         most,
         spec: Spec::read(alloc, "plain *")?,
         stop: true,

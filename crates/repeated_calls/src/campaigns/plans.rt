@@ -2,7 +2,7 @@
 
 use crate::limits::{LIMITS, MOST_TURNS};
 use atom_spec::Spec;
-use campaign::Plan;
+use campaign::{Choosing, Plan};
 use machine::Entry;
 use refused::{again, units_of};
 use turn_limit::TurnLimit;
@@ -17,6 +17,7 @@ pub(crate) fn plan_of(rt: &HostRuntime, jobs: u64, spec: &str, class: &str) -> O
         jobs,
         first: 0,
         seed: 0,
+        choosing: Choosing::Random,
         most: TurnLimit::new(MOST_TURNS)?,
         spec,
         stop: false,

@@ -1,7 +1,7 @@
 use Rattle.std.proofs.Common.{◌++◌, ◌-◌, ◌≡◌}
 use Rattle.departures.specs.Departures.{choices_of}
 use Rattle.departures.specs.Jobs.{children_in, children_of}
-use Rattle.explore_jobs.specs.Children.{local_in, turns_in, with_each}
+use Rattle.explore_jobs.specs.Children.{stays_in, turns_in, with_each}
 use Rattle.machine.specs.Machine.{with_state}
 use Rattle.explore_jobs.proofs.children.added_departures.Given as goal
 
@@ -12,6 +12,6 @@ invariant-loop-position l =
     let ahead = choices_of (turns_in m) (l.most - l.position) l.position l.machine.state l.last l.left in
     record {
       machine : l.machine ≡ with_state m l.machine.state;
-      children : with_each ds l.added.items ++ children_in (turns_in m) (local_in m) ds l.position l.machine.state l.last ahead l.left
-          ≡ children_of (turns_in m) (local_in m) l.most m.state 0 ds;
+      children : with_each ds l.added.items ++ children_in (turns_in m) (stays_in l.within m) ds l.position l.machine.state l.last ahead l.left
+          ≡ children_of (turns_in m) (stays_in l.within m) l.most m.state 0 ds;
     }

@@ -12,4 +12,4 @@ returns-clause-covers c =
     let way = subst IsOnWay c.self.view_is c.self.invariant in
     let is = subst (λ (x : Explored). IsProgram x.program) c.self.view_is c.program_invariant.ensures in
     let below = subst (λ (x : Explored). IsTrue x.is_good_below) c.self.view_is good in
-    covered_below c.jobs_speak_for_all_runs.ensures e.program e.plan start (level_in e) is begun ((way.level start begun).below below)
+    covered_below c.jobs_speak_for_all_runs.ensures c.jobs_speak_for_reduced_runs.ensures e.program e.plan start (level_in e) is begun ((way.level start begun).below below)

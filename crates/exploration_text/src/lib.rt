@@ -1,0 +1,9 @@
+//! The text of an exploration's answer.
+#![tactic(auto)]
+
+mod failing;
+mod text;
+mod within;
+
+pub use failing::{failing_line, schedule_text};
+pub use text::answer_text;
