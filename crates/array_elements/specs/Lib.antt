@@ -1,2 +1,3 @@
 pub mod Elements
 pub mod Kinds
+pub use Rattle.descriptor.specs as descriptor

@@ -4,5 +4,6 @@
 mod elements;
 mod kind;
 
+pub use descriptor;
 pub use elements::{Elements, put};
 pub use kind::{Kind, component, kind_of_array};

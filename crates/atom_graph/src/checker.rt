@@ -18,7 +18,6 @@ use crate::stay::Stay;
 use crate::stored_trace::StoredTrace;
 use crate::watch::Watch;
 use accesses::hash_of_touched;
-use atom_spec::Spec;
 use jvms_machine::machine::ThreadId;
 use jvms_machine::trace::Item;
 use jvms_program::key::MethodKey;
@@ -26,6 +25,7 @@ use shared_data::items::Items;
 use shared_data::shared::Shared;
 use std::alloc::{AllocError, Global};
 use std::marker::Model;
+use thread_states::atom_spec::Spec;
 use velodrome::verdict::Verdict;
 
 /// The maximum number of events.

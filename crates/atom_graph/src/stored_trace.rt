@@ -7,12 +7,12 @@ ghost use Rattle.thread_states.specs.Positions.{IsPosition};
 ghost use Rattle.atom_graph.specs.StoredTrace.{HasRoomFor, IsEntered, IsExited, IsHappened, IsSame, ending_transaction};
 
 use crate::item_cache::ItemCache;
-use atom_spec::Spec;
 use jvms_machine::machine::ThreadId;
 use jvms_machine::trace::Item;
 use jvms_program::key::MethodKey;
 use shared_data::shared::Shared;
 use std::alloc::{AllocError, Global};
+use thread_states::atom_spec::Spec;
 use thread_states::{ThreadPosition, ThreadStates};
 
 /// The state of each thread, the items, the transaction of each event, and the number of transactions that have begun.

@@ -9,8 +9,8 @@ use Rattle.velodrome.specs.Rearrangements.{IsRearrangement, IsSerial}
 use Rattle.velodrome.specs.Specification.{Specification}
 use Rattle.velodrome.specs.Transactions.{TraceState}
 use Rattle.velodrome.specs.Verdicts.{IsVerdict}
-use Rattle.atom_graph.specs.Checking.{Fed, state_of_fed}
-use Rattle.runs.specs.declared.ending.Ending.{Ending}
+use Rattle.program_runs.specs.atom_graph.Checking.{Fed, state_of_fed}
+use Rattle.program_runs.specs.declared.runs.Ending.{Ending}
 use Rattle.program_runs.specs.Judgements.{IsFedWith}
 use Rattle.program_runs.specs.Shown.{HasEnding, Shown}
 use Rattle.campaign_jobs.specs.Atomicities.{IsAtomicityOf, atomicity_of}

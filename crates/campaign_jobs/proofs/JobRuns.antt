@@ -5,10 +5,10 @@ use Rattle.jvms_file.specs.Results.{◌>>=◌}
 use Rattle.jvms_program.specs.declared.program.Class.{Class}
 use Rattle.jvms_machine.specs.Opening.{StartFault, start_of_entry}
 use Rattle.jvms_machine.specs.Start.{Start}
-use Rattle.machine.specs.Started.{opened_machine}
-use Rattle.machine.specs.Machine.{Machine}
-use Rattle.runs.specs.Choices.{choices_from}
-use Rattle.schedule.specs.Choosers.{Chooser, chooser_of_schedule}
+use Rattle.program_runs.specs.machine.Started.{opened_machine}
+use Rattle.program_runs.specs.machine.Machine.{Machine}
+use Rattle.program_runs.specs.runs.Choices.{choices_from}
+use Rattle.program_runs.specs.schedule.Choosers.{Chooser, chooser_of_schedule}
 use Rattle.program_runs.specs.Shown.{Shown, view_of_program, view_of_choices}
 use Rattle.campaign_jobs.specs.declared.choosing.Choosing.{Choosing}
 use Rattle.campaign_jobs.specs.declared.choosing.Choosing.TheVariants as choosing

@@ -4,7 +4,7 @@ use Rattle.std.specs.Prelude.{Ok}
 use Rattle.jvms_file.specs.Results.{◌>>=◌}
 use Rattle.jvms_program.specs.declared.program.Class.{Class}
 use Rattle.jvms_machine.specs.Opening.{start_of_entry}
-use Rattle.machine.specs.Started.{opened_machine}
+use Rattle.program_runs.specs.machine.Started.{opened_machine}
 use Rattle.program_runs.specs.Shown.{view_of_choices}
 use Rattle.campaign_jobs.specs.declared.plan.Plan.{Plan}
 use Rattle.campaign_jobs.specs.Choices.{choices_by}

@@ -3,11 +3,11 @@ use Rattle.std.proofs.Common.{◌≡◌, ℕ, zero, suc, ◌%◌, List, [], ◌�
 use Rattle.std.proofs.lemmas.Option.{slice_get-get_or}
 use Rattle.rand_pcg.specs.Lcg.{Lcg}
 use Rattle.rand_pcg.specs.Pcg.{pcg32}
-use Rattle.machine.specs.Machine.{Machine}
-use Rattle.schedule.specs.Choosers.{Chooser, Seeded, by_word, generator_of, chooser_of_schedule}
-use Rattle.schedule.specs.Enabled.{enabled_threads}
-use Rattle.schedule.specs.Schedules as schedules
-use Rattle.runs.specs.Choices.{after_turn, choices_from, first_then}
+use Rattle.program_runs.specs.machine.Machine.{Machine}
+use Rattle.program_runs.specs.schedule.Choosers.{Chooser, Seeded, by_word, generator_of, chooser_of_schedule}
+use Rattle.program_runs.specs.schedule.Enabled.{enabled_threads}
+use Rattle.program_runs.specs.schedule.Schedules as schedules
+use Rattle.program_runs.specs.runs.Choices.{after_turn, choices_from, first_then}
 use Rattle.campaign_jobs.specs.Choices.{chosen_then, job_choices, thread_at}
 
 -- A nonempty list has a thread at the next word modulo its length.

@@ -2,11 +2,11 @@
 use Rattle.std.specs.Prelude.{ℕ, zero, suc, ◌%◌, List, [], ◌∷◌, length, slice_index_or}
 use Rattle.rand_pcg.specs.Lcg.{Lcg}
 use Rattle.rand_pcg.specs.Pcg.{pcg32}
-use Rattle.machine.specs.Machine.{Machine}
-use Rattle.schedule.specs.Choosers.{chooser_of_schedule, generator_of}
-use Rattle.schedule.specs.Enabled.{enabled_threads}
-use Rattle.schedule.specs.Schedules.{Ranked}
-use Rattle.runs.specs.Choices.{after_turn, choices_from}
+use Rattle.program_runs.specs.machine.Machine.{Machine}
+use Rattle.program_runs.specs.schedule.Choosers.{chooser_of_schedule, generator_of}
+use Rattle.program_runs.specs.schedule.Enabled.{enabled_threads}
+use Rattle.program_runs.specs.schedule.Schedules.{Ranked}
+use Rattle.program_runs.specs.runs.Choices.{after_turn, choices_from}
 use Rattle.campaign_jobs.specs.declared.choosing.Choosing.{Choosing}
 use Rattle.campaign_jobs.specs.declared.choosing.Choosing.TheVariants as choosing
 

@@ -2,7 +2,7 @@
 use Rattle.std.specs.Prelude.{ℕ, ◌+◌, ◌%◌, ◌^◌, Bool, List, is_ok}
 use Rattle.jvms_program.specs.declared.program.Class.{Class}
 use Rattle.jvms_machine.specs.Opening.{start_of_entry}
-use Rattle.schedule.specs.Schedules.{Schedule, Ranked, Seeded}
+use Rattle.program_runs.specs.schedule.Schedules.{Schedule, Ranked, Seeded}
 use Rattle.campaign_jobs.specs.declared.choosing.Choosing.{Choosing}
 use Rattle.campaign_jobs.specs.declared.choosing.Choosing.TheVariants as choosing
 use Rattle.campaign_jobs.specs.declared.plan.Plan.{Plan}

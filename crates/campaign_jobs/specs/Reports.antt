@@ -4,7 +4,7 @@ use Rattle.jvms_file.specs.Results.{◌>>=◌}
 use Rattle.jvms_program.specs.declared.program.Class.{Class}
 use Rattle.jvms_machine.specs.Opening.{StartFault, start_of_entry}
 use Rattle.jvms_machine.specs.Start.{Start}
-use Rattle.machine.specs.Started.{opened_machine}
+use Rattle.program_runs.specs.machine.Started.{opened_machine}
 use Rattle.velodrome.specs.Cycles.{AreAtomic, IsCycle}
 use Rattle.velodrome.specs.Rearrangements.{IsRearrangement, IsSerial}
 use Rattle.velodrome.specs.Specification.{Specification}

@@ -2,10 +2,10 @@
 
 ghost use Rattle.std.specs.Prelude.{◌≡◌, ℕ, ◌+◌, List};
 ghost use Rattle.jvms_program.specs.declared.program.Class.{Class};
-ghost use Rattle.machine.specs.Machine.{Machine};
-ghost use Rattle.runs.specs.Choices.{choices_from};
-ghost use Rattle.schedule.specs.Choosers.{generator_of, chooser_of_schedule};
-ghost use Rattle.schedule.specs.Schedules.{Ranked, Seeded};
+ghost use Rattle.program_runs.specs.machine.Machine.{Machine};
+ghost use Rattle.program_runs.specs.runs.Choices.{choices_from};
+ghost use Rattle.program_runs.specs.schedule.Choosers.{generator_of, chooser_of_schedule};
+ghost use Rattle.program_runs.specs.schedule.Schedules.{Ranked, Seeded};
 ghost use Rattle.campaign_jobs.specs.declared.choosing.Choosing.TheVariants.{Priorities};
 ghost use Rattle.campaign_jobs.specs.declared.plan.Plan.{Plan};
 ghost use Rattle.campaign_jobs.specs.declared.result.JobResult.{JobResult};

@@ -10,6 +10,8 @@ mod run;
 
 pub use choosing::Choosing;
 pub use plan::Plan;
+pub use program_runs;
+pub use program_runs::{machine, runs, schedule};
 pub use report::Report;
 pub use result::{Atomicity, JobResult};
 pub use run::{atomicity_of, run_job, serial_of};

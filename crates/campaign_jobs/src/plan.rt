@@ -1,15 +1,15 @@
 //! The plan of a campaign.
 
 ghost use Rattle.std.specs.Prelude.{◌≡◌};
-ghost use Rattle.schedule.specs.Choosers.{chooser_of_schedule};
+ghost use Rattle.program_runs.specs.schedule.Choosers.{chooser_of_schedule};
 ghost use Rattle.campaign_jobs.specs.Plans.{fits, schedule_of, stream_of};
 
 use crate::choosing::Choosing;
 use atom_spec::Spec;
 use jvms_machine::machine::{Entry, Limits};
-use machine::admits;
 use program::Program;
-use schedule::Chooser;
+use program_runs::machine::admits;
+use program_runs::schedule::Chooser;
 use turn_limit::TurnLimit;
 
 /// The plan of a campaign: its jobs are numbered from 0, and all have one entry and one specification.

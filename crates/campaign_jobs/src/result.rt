@@ -3,7 +3,7 @@
 ghost use Rattle.std.specs.Prelude.{◌≡◌};
 ghost use Rattle.campaign_jobs.specs.Atomicities.{has_cycle};
 
-use machine::Status;
+use program_runs::machine::Status;
 
 /// The atomicity of a run.
 #[derive(Clone, Copy, Debug, PartialEq, Eq)]

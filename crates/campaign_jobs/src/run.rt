@@ -11,10 +11,10 @@ ghost use Rattle.program_runs.specs.Shown.{HasEnding};
 use crate::plan::Plan;
 use crate::report::Report;
 use crate::result::{Atomicity, JobResult};
-use atom_graph::Checker;
 use program::Program;
+use program_runs::atom_graph::Checker;
 use program_runs::feed_program;
-use runs::Ending;
+use program_runs::runs::Ending;
 use std::alloc::{AllocError, Global};
 use velodrome::verdict::Verdict;
 

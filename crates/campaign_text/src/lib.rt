@@ -9,6 +9,7 @@ mod part;
 mod reading;
 mod table;
 
+pub use campaign;
 pub use fault::{JoinFault, TableFault};
 pub use joining::join;
 pub use line::push_result;

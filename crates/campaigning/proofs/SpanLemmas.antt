@@ -1,7 +1,7 @@
 -- The span of a run is that of its ending.
 use Rattle.std.proofs.Common.{◌≡◌, ℕ, ap, ◌∙◌}
 use Rattle.std.specs.Prelude.{max, min, Result, Ok, Err}
-use Rattle.runs.specs.declared.ending.Ending.{Ending}
+use Rattle.program_runs.specs.declared.runs.Ending.{Ending}
 use Rattle.program_runs.specs.Shown.{HasEnding, Shown}
 use Rattle.judge.specs.Programs.{NotRun}
 use Rattle.campaigning.specs.Spans.{IsSpanIn}

@@ -6,7 +6,7 @@ use Rattle.jvms_machine.specs.Opening.{start_of_entry}
 use Rattle.trace.specs.Bytes.{AppendsBeginning}
 use Rattle.campaign_jobs.specs.declared.plan.Plan.{Plan}
 use Rattle.campaign_jobs.specs.declared.result.JobResult.{JobResult}
-use Rattle.campaign.specs.Tables.{IsTable}
+use Rattle.campaign_text.specs.campaign.Tables.{IsTable}
 use Rattle.campaign_text.specs.TableTexts.{table_text}
 use Rattle.inputs.specs.declared.input.Input.{Input}
 use Rattle.judge.specs.Programs.{NotRun, not_made, program_in, with_reason}

@@ -5,7 +5,7 @@ ghost use Rattle.judge.specs.declared.fault.JudgeFault.TheVariants.{Memory};
 ghost use Rattle.campaigning.specs.declared.fault.CampaignFault.TheVariants.{Judge, Output};
 ghost use Rattle.campaigning.specs.Faults.{is_memory};
 
-use campaign::DeskFault;
+use campaign_text::campaign::DeskFault;
 use judge::JudgeFault;
 use std::alloc::AllocError;
 use thiserror::Error;

@@ -6,7 +6,7 @@ mod running;
 mod spans;
 mod writing;
 
-pub use campaign::{Choosing, Gate, JobResult, OpenGate, Plan, Table};
+pub use campaign_text::campaign::{Choosing, Gate, JobResult, OpenGate, Plan, Table};
 pub use campaign_text::{JoinFault, Part, TableFault, join, read_table, table_text};
 pub use fault::CampaignFault;
 pub use spans::default_span;

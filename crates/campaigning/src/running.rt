@@ -3,14 +3,14 @@
 ghost use Rattle.std.specs.Prelude.{◌≡◌, ◌≢◌, length, IfErr, IfOk, IsTrue, OnOk};
 ghost use Rattle.jvms_machine.specs.Opening.{start_of_entry};
 ghost use Rattle.program_runs.specs.Faults.{IsProgramFault};
-ghost use Rattle.campaign.specs.Tables.{IsTable};
+ghost use Rattle.campaign_text.specs.campaign.Tables.{IsTable};
 ghost use Rattle.campaign_jobs.specs.Plans.{fits};
 ghost use Rattle.campaign_desk.specs.Limits.{FitsLimits};
 ghost use Rattle.campaigning.specs.Campaigns.{IsTableOf, fitting_program, program_for};
 ghost use Rattle.campaigning.specs.Faults.{IsFault, IsHalt, NamesFile};
 
 use crate::fault::CampaignFault;
-use campaign::{DeskFault, Gate, Halted, Plan, Table, run_campaign};
+use campaign_text::campaign::{DeskFault, Gate, Halted, Plan, Table, run_campaign};
 use inputs::Input;
 use judge::{JudgeFault, program_of};
 use machine::Machine;

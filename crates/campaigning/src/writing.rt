@@ -11,7 +11,7 @@ ghost use Rattle.campaigning.specs.Faults.{IsFault, NamesFile};
 
 use crate::fault::CampaignFault;
 use crate::running::run_inputs;
-use campaign::{Gate, Plan, Table};
+use campaign_text::campaign::{Gate, Plan, Table};
 use campaign_text::table_text;
 use inputs::Input;
 use std::alloc::Global;

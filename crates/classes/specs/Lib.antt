@@ -11,3 +11,4 @@ pub mod Places
 pub mod Searches
 pub mod Slots
 pub mod Starts
+pub use Rattle.descriptor.specs as descriptor

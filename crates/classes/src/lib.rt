@@ -34,6 +34,7 @@ mod walk;
 pub use chain::superclass_name;
 pub use class_list::ClassList;
 pub use class_sets::{AncestorSets, ancestor_sets};
+pub use descriptor;
 pub use field_name::FieldName;
 pub use list::{Classes, Ordered};
 pub use lookup::{declared_field_number, declared_number, numbered};

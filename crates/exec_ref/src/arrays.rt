@@ -17,8 +17,8 @@ use jvms_machine::action::{Effect, FrameAction, NewObject};
 use jvms_machine::machine::BadCause;
 use jvms_machine::value::Value;
 use jvms_program::thrown::Thrown;
+use machine_parts::machine_thread::Thread;
 use machine_parts::{ActionText, Decided, Parts, bad, has_depth, never_seen, reaches};
-use machine_thread::Thread;
 use shared_data::shared::Text;
 
 /// Decides whether the limits allow `objects` more objects and `elements` more array elements.

@@ -8,13 +8,13 @@ ghost use Rattle.machine_parts.specs.Decided.{effect_value};
 ghost use Rattle.machine_parts.specs.Marks.{item_list};
 ghost use Rattle.exec_ref.specs.Events.{event_key};
 
+use heap::program::Program;
 use jvms_machine::action::Effect;
 use jvms_machine::machine::ThreadId;
 use jvms_machine::trace::{Item, Variable};
 use jvms_program::key::FieldKey;
 use jvms_program::number::FieldNumber;
 use machine_parts::{ActionText, Parts, acquire_item, release_item};
-use program::Program;
 use std::alloc::AllocError;
 
 /// Returns the key of the field of a number.

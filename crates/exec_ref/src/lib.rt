@@ -14,4 +14,6 @@ pub use arrays::many::new_arrays_decision;
 pub use effects::reach;
 pub use fields::fast::fast_field;
 pub use fields::field_decision;
+pub use heap;
+pub use machine_parts::{classes, exec, frame_turns};
 pub use objects::{class_decision, loadable_decision};

@@ -23,6 +23,7 @@ ghost use Rattle.heap.specs.Objects.{IsNumberOf};
 use crate::arrays::{creation_decision, new_class_array_decision};
 use frames::Frame;
 use heap::ObjectClass;
+use heap::program::Program;
 use jvms_file::insn::ClassUse;
 use jvms_machine::action::{Effect, FrameAction, NewObject};
 use jvms_machine::machine::{BadCause, ThreadId};
@@ -30,9 +31,8 @@ use jvms_machine::value::Value;
 use jvms_program::number::ClassNumber;
 use jvms_program::program::{Class, ClassKind, Loadable};
 use jvms_program::thrown::Thrown;
+use machine_parts::machine_thread::Thread;
 use machine_parts::{ActionText, Decided, Parts, bad, has_depth, never_seen, next_action, reaches};
-use machine_thread::Thread;
-use program::Program;
 use shared_data::shared::Text;
 
 /// The result of testing the topmost operand against a class.

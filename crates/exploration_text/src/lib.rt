@@ -5,5 +5,7 @@ mod failing;
 mod text;
 mod within;
 
+pub use exploring;
+pub use exploring::explore_jobs;
 pub use failing::{failing_line, schedule_text};
 pub use text::answer_text;

@@ -9,7 +9,7 @@ use Rattle.machine.specs.declared.fault.MachineFault.TheVariants as machine_faul
 use Rattle.program_runs.specs.declared.fault.ProgramFault.{ProgramFault}
 use Rattle.program_runs.specs.declared.fault.ProgramFault.TheVariants as program_fault
 use Rattle.program_runs.specs.Faults.{IsProgramFault}
-use Rattle.explore_jobs.specs.declared.plan.Plan.{Plan}
+use Rattle.exploration_text.specs.declared.explore_jobs.Plan.{Plan}
 use Rattle.judge.specs.Faults.{IsFault, judge_fault_of}
 use Rattle.judge.specs.Programs.{not_made, with_reason}
 use Rattle.explorations.specs.Programs.{fitting_program}

@@ -4,10 +4,10 @@ use Rattle.jvms_file.specs.Results.{◌>>=◌}
 use Rattle.jvms_program.specs.declared.program.Class.{Class}
 use Rattle.jvms_machine.specs.Opening.{start_of_entry}
 use Rattle.trace.specs.Bytes.{AppendsBeginning}
-use Rattle.explore_jobs.specs.declared.plan.Plan.{Plan}
-use Rattle.exploring.specs.Answers.{IsAnswerTo}
-use Rattle.exploring.specs.declared.answer.Answer.{Answer}
-use Rattle.exploring.specs.declared.answer.Bounds.{Bounds}
+use Rattle.exploration_text.specs.declared.explore_jobs.Plan.{Plan}
+use Rattle.exploration_text.specs.exploring.Answers.{IsAnswerTo}
+use Rattle.exploration_text.specs.declared.exploring.Answer.{Answer}
+use Rattle.exploration_text.specs.declared.exploring.Bounds.{Bounds}
 use Rattle.exploration_text.specs.Texts.{answer_text}
 use Rattle.inputs.specs.declared.input.Input.{Input}
 use Rattle.judge.specs.Programs.{NotRun, not_made, program_in, with_reason}

@@ -5,7 +5,9 @@ mod fault;
 mod running;
 mod writing;
 
+pub use exploration_text::exploring::{
+    Answer, Bounds, FailingRun, Fate, Level, LevelRuns, Observer, Plan, Team,
+};
 pub use exploration_text::{answer_text, schedule_text};
-pub use exploring::{Answer, Bounds, FailingRun, Fate, Level, LevelRuns, Observer, Plan, Team};
 pub use fault::ExplorationFault;
 pub use writing::write_exploration;

@@ -3,12 +3,12 @@
 ghost use Rattle.std.specs.Prelude.{◌≡◌, ◌≢◌, ◌<◌, ◌≤◌, length, IfErr, IfOk, IsTrue, OnOk};
 ghost use Rattle.jvms_machine.specs.Opening.{start_of_entry};
 ghost use Rattle.program_runs.specs.Faults.{IsProgramFault};
-ghost use Rattle.explore_jobs.specs.Plans.{fits};
+ghost use Rattle.exploration_text.specs.explore_jobs.Plans.{fits};
 ghost use Rattle.explorations.specs.Faults.{IsFault, NamesFile};
 ghost use Rattle.explorations.specs.Programs.{IsAnswerOf, fitting_program, program_for};
 
 use crate::fault::ExplorationFault;
-use exploring::{Answer, Bounds, Observer, Plan, Team, explore};
+use exploration_text::exploring::{Answer, Bounds, Observer, Plan, Team, explore};
 use inputs::Input;
 use judge::{JudgeFault, program_of};
 use machine::Machine;

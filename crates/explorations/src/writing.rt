@@ -12,7 +12,7 @@ use crate::fault::ExplorationFault;
 use crate::running::explore_inputs;
 use atom_spec::Spec;
 use exploration_text::answer_text;
-use exploring::{Answer, Bounds, Observer, Plan, Team};
+use exploration_text::exploring::{Answer, Bounds, Observer, Plan, Team};
 use inputs::Input;
 use std::alloc::Global;
 use std::sync::Wait;

@@ -6,9 +6,9 @@ use Rattle.campaign_jobs.proofs.JobResults.{result_is}
 use Rattle.campaign_jobs.specs.Atomicities.{atomicity_of}
 use Rattle.explore_jobs.specs.Fates.{IsFateIn}
 use Rattle.jvms_machine.specs.Opening.{StartFault}
-use Rattle.program_runs.specs.Judgements.{IsFedWith}
-use Rattle.program_runs.specs.Shown.{HasEnding, Shown}
-use Rattle.runs.specs.declared.ending.Ending.{Ending}
+use Rattle.campaign_jobs.specs.program_runs.Judgements.{IsFedWith}
+use Rattle.campaign_jobs.specs.program_runs.Shown.{HasEnding, Shown}
+use Rattle.campaign_jobs.specs.declared.runs.Ending.{Ending}
 use Rattle.velodrome.specs.Specification.{Specification}
 use Rattle.velodrome.specs.Verdicts.{IsVerdict}
 use Rattle.velodrome.specs.declared.verdict.Verdict.{Verdict}

@@ -4,7 +4,7 @@ use Rattle.departures.specs.Departures.{default_of}
 use Rattle.departures.specs.Jobs.{children_here}
 use Rattle.departures.specs.declared.departure.Departure.{Departure}
 use Rattle.explore_jobs.specs.Children.{stays_in, turns_in}
-use Rattle.machine.specs.Machine.{Machine, transition_of, with_state}
+use Rattle.campaign_jobs.specs.machine.Machine.{Machine, transition_of, with_state}
 use Rattle.velodrome.specs.Specification.{Specification}
 
 pub default_in : (m now : Machine) (last : ℕ) {found : Option ℕ} → now ≡ with_state m now.state

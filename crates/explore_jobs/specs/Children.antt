@@ -5,7 +5,7 @@ use Rattle.departures.specs.declared.departure.Departure.{Departure}
 use Rattle.jvms_machine.specs.State.{State}
 use Rattle.explore_jobs.specs.Stays.{stays}
 use Rattle.local_turns.specs.Turns.{turns_of}
-use Rattle.machine.specs.Machine.{Machine}
+use Rattle.campaign_jobs.specs.machine.Machine.{Machine}
 use Rattle.velodrome.specs.Specification.{Specification}
 
 -- Returns the turns of a machine's program, limits and start, in any state.

@@ -10,7 +10,7 @@ use Rattle.jvms_machine.specs.Opening.{StartFault}
 use Rattle.jvms_machine.specs.declared.machine.Status.{Status}
 use Rattle.jvms_machine.specs.declared.machine.Status.TheVariants as status
 use Rattle.jvms_program.specs.declared.program.Class.{Class}
-use Rattle.program_runs.specs.Shown.{Shown}
+use Rattle.campaign_jobs.specs.program_runs.Shown.{Shown}
 use Rattle.velodrome.specs.Specification.{Specification}
 
 -- Decides whether all threads of a run have ended.

@@ -4,9 +4,9 @@ use Rattle.departures.specs.declared.departure.Departure.{Departure}
 use Rattle.explore_jobs.specs.declared.plan.Plan.{Plan}
 use Rattle.jvms_machine.specs.Opening.{StartFault, start_of_entry}
 use Rattle.jvms_program.specs.declared.program.Class.{Class}
-use Rattle.program_runs.specs.Shown.{Shown, view_of_program}
-use Rattle.schedule.specs.Choosers.{chooser_of_schedule}
-use Rattle.schedule.specs.Schedules as schedules
+use Rattle.campaign_jobs.specs.program_runs.Shown.{Shown, view_of_program}
+use Rattle.campaign_jobs.specs.schedule.Choosers.{chooser_of_schedule}
+use Rattle.campaign_jobs.specs.schedule.Schedules as schedules
 
 -- Decides whether a machine of the program can be made with the plan's limits and entry.
 abbrev pub fits : List Class → Plan → Bool

@@ -9,8 +9,8 @@ ghost use Rattle.jvms_machine.specs.State.{State};
 
 use crate::staying::{can_take, stays};
 use atom_spec::Spec;
+use campaign_jobs::machine::{Machine, ThreadId};
 use departures::Departure;
-use machine::{Machine, ThreadId};
 use std::alloc::{AllocError, Global};
 use trace::Recording;
 

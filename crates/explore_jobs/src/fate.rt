@@ -4,7 +4,7 @@ ghost use Rattle.std.specs.Prelude.{◌≡◌};
 ghost use Rattle.explore_jobs.specs.Fates.{fails, is_finished};
 
 use campaign_jobs::JobResult;
-use machine::Status;
+use campaign_jobs::machine::Status;
 
 /// How the run of a job ends: its result, and whether a thread ended by an exception that nothing caught.
 #[derive(Clone, Copy, Debug, PartialEq, Eq)]

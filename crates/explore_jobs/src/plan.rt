@@ -4,8 +4,8 @@ ghost use Rattle.std.specs.Prelude.{◌≡◌};
 ghost use Rattle.explore_jobs.specs.Plans.{fits};
 
 use atom_spec::Spec;
+use campaign_jobs::machine::admits;
 use jvms_machine::machine::{Entry, Limits};
-use machine::admits;
 use program::Program;
 use turn_limit::TurnLimit;
 

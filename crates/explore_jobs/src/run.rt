@@ -3,18 +3,18 @@
 ghost use Rattle.std.specs.Prelude.{◌≡◌, [], IfOk, IsTrue};
 ghost use Rattle.explore_jobs.specs.Fates.{IsFateOf};
 ghost use Rattle.explore_jobs.specs.Plans.{fits, job_shown};
-ghost use Rattle.program_runs.specs.Judgements.{IsFedWith};
-ghost use Rattle.program_runs.specs.Shown.{HasEnding};
+ghost use Rattle.campaign_jobs.specs.program_runs.Judgements.{IsFedWith};
+ghost use Rattle.campaign_jobs.specs.program_runs.Shown.{HasEnding};
 
 use crate::fate::Fate;
 use crate::plan::Plan;
 use atom_graph::Checker;
+use campaign_jobs::program_runs::{feed_program, run_program};
+use campaign_jobs::runs::Ending;
+use campaign_jobs::schedule::Chooser;
 use campaign_jobs::{JobResult, atomicity_of};
 use departures::Departure;
 use program::Program;
-use program_runs::{feed_program, run_program};
-use runs::Ending;
-use schedule::Chooser;
 use std::alloc::{AllocError, Global};
 
 /// Runs a job, feeds its items to a checker, and returns how the run ended.

@@ -8,10 +8,10 @@ ghost use Rattle.jvms_program.specs.Program.{key_in, key_of};
 ghost use Rattle.velodrome.specs.Specification.{is_of};
 
 use atom_spec::{Pattern, Spec, SpecificationLine};
+use campaign_jobs::machine::{FrameView, Machine, ThreadId, is_enabled};
 use descriptor::same_text;
 use jvms_program::number::MethodNumber;
 use jvms_program::program::{Class, Method};
-use machine::{FrameView, Machine, ThreadId, is_enabled};
 use program::Program;
 
 /// Decides whether a thread can take a turn.

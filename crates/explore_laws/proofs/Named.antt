@@ -12,7 +12,7 @@ use Rattle.departures.specs.declared.departure.Departure.{Departure}
 use Rattle.explore_laws.proofs.Defaults as enabled
 use Rattle.jvms_machine.specs.State.{State}
 use Rattle.local_turns.specs.Turns.{turns_of}
-use Rattle.machine.specs.Machine.{Machine, with_state}
+use Rattle.runs.specs.machine.Machine.{Machine, with_state}
 use Rattle.runs.specs.Choices.{after_turn, choices_from, first_then}
 use Rattle.schedule.specs.Choosers.{Chooser, Listed, Staying, default, next, stay, stay_or_depart, turns_before}
 use Rattle.schedule.specs.Enabled.{enabled_threads}

@@ -1,1 +1,2 @@
 pub mod Coverage
+pub use Rattle.schedule.specs as schedule

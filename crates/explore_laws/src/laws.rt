@@ -12,7 +12,7 @@ ghost use Rattle.jvms_machine.specs.declared.machine.Limits.{Limits};
 ghost use Rattle.jvms_program.specs.Program.{IsProgram};
 ghost use Rattle.jvms_program.specs.declared.program.Class.{Class};
 ghost use Rattle.local_turns.specs.Turns.{turns_of};
-ghost use Rattle.machine.specs.Machine.{Machine};
+ghost use Rattle.runs.specs.machine.Machine.{Machine};
 ghost use Rattle.runs.specs.Choices.{choices_from};
 ghost use Rattle.schedule.specs.Choosers.{chooser_of_schedule};
 ghost use Rattle.schedule.specs.Schedules.{Staying};

@@ -7,9 +7,9 @@ use Rattle.std.proofs.lemmas.Iterator.Adapters.{position_from-zero}
 use Rattle.std.specs.List.{AllByRecursion, AllZip, position_from}
 use Rattle.std.specs.Prelude.{cond, not, ◌+◌, ◌||◌}
 use Rattle.jvms_file.specs.Results.{◌>>=◌}
-use Rattle.campaign_jobs.specs.Atomicities.{IsAtomicityOf, has_cycle}
-use Rattle.campaign_jobs.specs.declared.result.Atomicity.{Atomicity}
-use Rattle.campaign_jobs.specs.declared.result.Atomicity.TheVariants as atomicity
+use Rattle.explore_jobs.specs.campaign_jobs.Atomicities.{IsAtomicityOf, has_cycle}
+use Rattle.explore_jobs.specs.declared.campaign_jobs.Atomicity.{Atomicity}
+use Rattle.explore_jobs.specs.declared.campaign_jobs.Atomicity.TheVariants as atomicity
 use Rattle.departures.proofs.Cover.{run_of_job}
 use Rattle.departures.proofs.Lists.{in_level}
 use Rattle.departures.specs.Departures.{choices_of, name_of}
@@ -29,12 +29,12 @@ use Rattle.jvms_machine.specs.declared.machine.Status.TheVariants as status
 use Rattle.jvms_program.specs.declared.program.Class.{Class}
 use Rattle.explore_jobs.specs.Stays.{stays}
 use Rattle.local_turns.specs.Turns.{turns_of}
-use Rattle.machine.specs.Machine.{Machine}
-use Rattle.machine.specs.Started.{opened_machine}
+use Rattle.program_runs.specs.machine.Machine.{Machine}
+use Rattle.program_runs.specs.machine.Started.{opened_machine}
 use Rattle.program_runs.specs.Shown.{Shown, view_of_program, view_of_run}
-use Rattle.runs.specs.Choices.{choices_from}
-use Rattle.schedule.specs.Choosers.{chooser_of_schedule}
-use Rattle.schedule.specs.Schedules.{Staying}
+use Rattle.program_runs.specs.runs.Choices.{choices_from}
+use Rattle.explore_laws.specs.schedule.Choosers.{chooser_of_schedule}
+use Rattle.explore_laws.specs.schedule.Schedules.{Staying}
 use Rattle.velodrome.specs.Cycles.{AreAtomic}
 use Rattle.velodrome.specs.Transactions.{Event, trace_state_of}
 

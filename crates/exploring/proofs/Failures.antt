@@ -5,7 +5,7 @@ use Rattle.std.proofs.lemmas.Iterator.Adapters.{position_from-zero}
 use Rattle.std.proofs.lemmas.List.Folds.{sum_by-zero}
 use Rattle.std.specs.List.{count_by, list_all, list_any, position, position_from}
 use Rattle.std.specs.Prelude.{cond, is_some, nat_eq, nat_lt, not, ◌||◌}
-use Rattle.campaign_jobs.specs.Atomicities.{has_cycle}
+use Rattle.explore_jobs.specs.campaign_jobs.Atomicities.{has_cycle}
 use Rattle.explore_jobs.specs.Fates.{fails, is_finished}
 use Rattle.explore_jobs.specs.declared.fate.Fate.{Fate}
 use Rattle.exploring.specs.Counts.{is_deadlocked, is_running, is_stalled, level_of}

@@ -1,7 +1,7 @@
 -- What is counted of the runs of a level.
 use Rattle.std.specs.Prelude.{ℕ, Bool, true, false, List, length}
 use Rattle.std.specs.List.{count_by}
-use Rattle.campaign_jobs.specs.Atomicities.{has_cycle}
+use Rattle.explore_jobs.specs.campaign_jobs.Atomicities.{has_cycle}
 use Rattle.explore_jobs.specs.declared.fate.Fate.{Fate}
 use Rattle.exploring.specs.declared.level.Level.{Level}
 use Rattle.jvms_machine.specs.declared.machine.Status.{Status}

@@ -6,3 +6,4 @@ pub mod Growths
 pub mod Levels
 pub mod Searches
 pub mod Thorough
+pub use Rattle.explore_jobs.specs as explore_jobs

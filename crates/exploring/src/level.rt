@@ -1,11 +1,11 @@
 //! What is counted of the runs of a level.
 
 ghost use Rattle.std.specs.Prelude.{◌≡◌, count_by};
-ghost use Rattle.campaign_jobs.specs.Atomicities.{has_cycle};
+ghost use Rattle.explore_jobs.specs.campaign_jobs.Atomicities.{has_cycle};
 ghost use Rattle.exploring.specs.Counts.{is_deadlocked, is_running, is_stalled, level_of};
 
 use explore_jobs::Fate;
-use machine::Status;
+use program_runs::machine::Status;
 
 /// What is counted of the runs of a level. A run that fails in several ways counts under each.
 #[derive(Clone, Copy, Debug, PartialEq, Eq)]

@@ -5,5 +5,10 @@ mod elements;
 mod one_turn;
 mod turns;
 
+pub use exec;
+pub use frames;
+pub use heap;
+pub use heap::{classes, program};
 pub use one_turn::step_once;
+pub use trace;
 pub use turns::step_consecutive;

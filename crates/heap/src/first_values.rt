@@ -7,12 +7,12 @@ ghost use Rattle.jvms_machine.specs.State.{default_of_element, default_value, in
 ghost use Rattle.heap.specs.FirstValues.{own_values, values_down};
 ghost use Rattle.heap.specs.Stored.{name_at};
 
-use classes::superclass_name;
 use jvms_file::descriptor::{Element, FieldType, Primitive};
 use jvms_machine::value::Value;
 use jvms_program::number::ClassNumber;
 use jvms_program::program::Field;
 use program::Program;
+use program::classes::superclass_name;
 use std::alloc::{AllocError, Global};
 
 /// The greatest number of superclasses that are followed by their numbers.

@@ -20,5 +20,7 @@ mod texts;
 
 pub use heap::Heap;
 pub use object_class::ObjectClass;
+pub use program;
+pub use program::classes;
 pub use saved::SavedHeap;
 pub use statics::Statics;

@@ -7,8 +7,8 @@ ghost use Rattle.heap.specs.Objects.{object_part, field_of, slot_in};
 
 use crate::heap::Heap;
 use crate::making::name_at;
-use classes::{FieldName, Slot};
 use jvms_machine::value::Value;
+use program::classes::{FieldName, Slot};
 
 impl Heap<'_> {
     /// Returns the slot of an instance's field.

@@ -6,7 +6,7 @@ use Rattle.jvms_machine.specs.declared.machine.BadCause.TheVariants as cause
 use Rattle.jvms_machine.specs.State.{Activation, Object, instance, array, text, class_object}
 use Rattle.jvms_machine.specs.Decisions.{bad}
 use Rattle.jvms_machine.specs.Natives.{prints, object_printed}
-use Rattle.heap.specs.Objects.{units_of}
+use Rattle.machine_parts.specs.heap.Objects.{units_of}
 
 pub text_printed : (a : Activation) (takes : ℕ) (ends_line : Bool) (r : ℕ) (units : List ℕ) (o : Option Object) → option_and_then units_of o ≡ Some units → object_printed a takes ends_line r o ≡ prints a takes (printed.Text r) ends_line
 text_printed a takes ends_line r units None is = cc

@@ -15,14 +15,14 @@ mod operands;
 mod run_method;
 
 use crate::calls::run_method::run_decision;
-use exec::is_outside_method;
 use jvms_machine::action::{Action, Decision, Lock};
 use jvms_machine::machine::{BadCause, ThreadId};
 use jvms_program::number::MethodNumber;
 use jvms_program::program::{Body, Method};
 use jvms_program::thrown::Thrown;
+use machine_parts::exec::is_outside_method;
+use machine_parts::machine_thread::Thread;
 use machine_parts::{Decided, Locking, Parts, bad, never_seen};
-use machine_thread::Thread;
 
 /// The decision on the call of a method.
 #[derive(Clone, Copy)]

@@ -6,15 +6,15 @@ ghost use Rattle.jvms_machine.specs.Initialisation.{initializer_of, asked_superc
 ghost use Rattle.machine_parts.specs.Before.{first_or};
 ghost use Rattle.machine_parts.specs.Decided.{decision_value};
 
-use classes::declared_number;
 use jvms_machine::action::{Action, Decision};
 use jvms_machine::machine::ThreadId;
 use jvms_program::number::{ClassNumber, MethodNumber};
 use jvms_program::program::{Class, ClassKind};
 use jvms_program::thrown::Thrown;
+use machine_parts::classes::declared_number;
+use machine_parts::machine_thread::Thread;
+use machine_parts::program::Program;
 use machine_parts::{Decided, Parts, never_seen};
-use machine_thread::Thread;
-use program::Program;
 
 /// The name of the method that initialises a class, `<clinit>`.
 const INITIALIZER: [u16; 8] = [60, 99, 108, 105, 110, 105, 116, 62];

@@ -19,6 +19,8 @@ pub use calls::invoke::invoke_decision;
 pub use initialisation::initialisation_decision;
 pub use locking::fast::{fast_monitor_enter, fast_monitor_exit};
 pub use locking::{monitor_enter_decision, monitor_exit_decision};
+pub use machine_parts;
+pub use machine_parts::{heap, machine_thread, program};
 pub use returns::fast::{PlainReturn, fast_return};
 pub use returns::method_return_decision;
 pub use waiting::{retake, wait, waiting_decision};

@@ -13,8 +13,8 @@ use jvms_machine::action::Effect;
 use jvms_machine::machine::{BadCause, ThreadId};
 use jvms_machine::value::Value;
 use jvms_program::thrown::Thrown;
+use machine_parts::machine_thread::Thread;
 use machine_parts::{Decided, Entering, Parts, bad, has_depth, never_seen, next_action, reaches};
-use machine_thread::Thread;
 
 /// Decides the entry of an object's monitor.
 fn enter_object<'p>(

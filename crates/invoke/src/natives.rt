@@ -18,8 +18,8 @@ use jvms_machine::value::Value;
 use jvms_program::number::ClassNumber;
 use jvms_program::program::Method;
 use jvms_program::thrown::Thrown;
+use machine_parts::machine_thread::Thread;
 use machine_parts::{Decided, Parts, bad, never_seen, next_action, reaches};
-use machine_thread::Thread;
 
 /// Returns the decision to print. It takes all operands of the call: the receiver, and the printed value, if there is
 /// one.

@@ -7,15 +7,15 @@ ghost use Rattle.machine_parts.specs.Decided.{decision_value};
 
 pub(crate) mod fast;
 
-use exec::{kind_size, top_value};
 use frames::Frame;
 use jvms_file::descriptor::ResultType;
 use jvms_file::insn::{Kind, ReturnInsn};
 use jvms_machine::action::{Action, Decision, MonitorUse};
 use jvms_machine::machine::{BadCause, ThreadId};
 use jvms_machine::value::Value;
+use machine_parts::exec::{kind_size, top_value};
+use machine_parts::machine_thread::Thread;
 use machine_parts::{Decided, Parts, Unlocking, bad, kind_of_type, never_seen};
-use machine_thread::Thread;
 
 /// Decides whether a method has a result of this kind.
 #[inline(always)]

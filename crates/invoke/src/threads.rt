@@ -13,8 +13,8 @@ use jvms_machine::machine::{BlockedOn, Outcome};
 use jvms_machine::value::Value;
 use jvms_program::program::Method;
 use jvms_program::thrown::Thrown;
+use machine_parts::machine_thread::Thread;
 use machine_parts::{Decided, Parts, never_seen, next_action, reaches};
-use machine_thread::Thread;
 
 /// Decides the start of a Thread object. It tests that the object wasn't started before, then the room for one more
 /// thread.

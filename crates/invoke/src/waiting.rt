@@ -18,8 +18,8 @@ use jvms_machine::state::{Hold, Wait};
 use jvms_machine::value::Value;
 use jvms_program::program::Method;
 use jvms_program::thrown::Thrown;
+use machine_parts::machine_thread::Thread;
 use machine_parts::{Decided, Parts, never_seen, next_action, reaches};
-use machine_thread::Thread;
 use std::alloc::AllocError;
 use trace::Recording;
 

@@ -2,7 +2,7 @@
 use Rattle.std.proofs.Common.{ℕ, refl, ap}
 use Rattle.std.specs.Prelude.{Result, Ok, Err}
 use Rattle.jvms_machine.specs.Opening.{StartFault}
-use Rattle.machine.specs.declared.fault.MachineFault.TheVariants as machine_fault
+use Rattle.program_runs.specs.declared.machine.MachineFault.TheVariants as machine_fault
 use Rattle.program_runs.specs.declared.fault.ProgramFault.{ProgramFault}
 use Rattle.program_runs.specs.declared.fault.ProgramFault.TheVariants as program_fault
 use Rattle.program_runs.specs.Faults.{IsProgramFault}

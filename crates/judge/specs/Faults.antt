@@ -6,8 +6,8 @@ use Rattle.inputs.specs.declared.fault.InputFault.{InputFault}
 use Rattle.inputs.specs.Inputs as inputs
 use Rattle.linker.specs.declared.fault.LinkFault.{LinkFault}
 use Rattle.linker.specs.declared.fault.LinkFault.TheVariants as link_fault
-use Rattle.machine.specs.declared.fault.MachineFault.{MachineFault}
-use Rattle.machine.specs.declared.fault.MachineFault.TheVariants as machine_fault
+use Rattle.program_runs.specs.declared.machine.MachineFault.{MachineFault}
+use Rattle.program_runs.specs.declared.machine.MachineFault.TheVariants as machine_fault
 use Rattle.program_runs.specs.declared.fault.ProgramFault.{ProgramFault}
 use Rattle.program_runs.specs.declared.fault.ProgramFault.TheVariants as program_fault
 use Rattle.judge.specs.declared.fault.JudgeFault.{JudgeFault}

@@ -3,9 +3,9 @@ use Rattle.std.specs.Prelude.{◌≡◌, ℕ, List, Option, Result, Ok, IfOk, If
 use Rattle.jvms_program.specs.declared.program.Class.{Class}
 use Rattle.jvms_machine.specs.declared.machine.Entry.{Entry}
 use Rattle.jvms_machine.specs.declared.machine.Limits.{Limits}
-use Rattle.schedule.specs.Choosers.{Chooser}
+use Rattle.program_runs.specs.schedule.Choosers.{Chooser}
 use Rattle.velodrome.specs.Specification.{Specification}
-use Rattle.runs.specs.declared.ending.Ending.{Ending}
+use Rattle.program_runs.specs.declared.runs.Ending.{Ending}
 use Rattle.program_runs.specs.declared.feeding.Judgement.{Judgement}
 use Rattle.program_runs.specs.declared.fault.ProgramFault.{ProgramFault}
 use Rattle.program_runs.specs.Faults.{IsProgramFault}

@@ -4,7 +4,7 @@ use Rattle.jvms_file.specs.Results.{◌>>=◌}
 use Rattle.jvms_program.specs.declared.program.Class.{Class}
 use Rattle.jvms_machine.specs.declared.machine.Entry.{Entry}
 use Rattle.jvms_machine.specs.declared.machine.Limits.{Limits}
-use Rattle.schedule.specs.Choosers.{Chooser}
+use Rattle.program_runs.specs.schedule.Choosers.{Chooser}
 use Rattle.program_runs.specs.Shown.{Shown, program_chooser_left, view_of_program}
 use Rattle.inputs.specs.declared.input.Input.{Input}
 use Rattle.judge.specs.Programs.{NotRun, not_made, program_in, with_reason}

@@ -6,8 +6,8 @@ ghost use Rattle.judge.specs.declared.fault.JudgeFault.TheVariants.{Link, Machin
 
 use inputs::InputFault;
 use linker::LinkFault;
-use machine::MachineFault;
 use program_runs::ProgramFault;
+use program_runs::machine::MachineFault;
 use std::alloc::{AllocError, AllocFailed};
 use thiserror::Error;
 

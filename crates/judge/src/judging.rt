@@ -12,8 +12,8 @@ use crate::verdicts::judge_trace;
 use atom_spec::Spec;
 use inputs::Input;
 use jvms_machine::machine::{Entry, Limits};
+use program_runs::schedule::Chooser;
 use program_runs::{Judgement, TracedRun, trace_program};
-use schedule::Chooser;
 use std::alloc::Global;
 use turn_limit::TurnLimit;
 

@@ -9,5 +9,6 @@ mod verdicts;
 
 pub use fault::JudgeFault;
 pub use judging::{Judged, judge};
+pub use program_runs;
 pub use reading::{classes_of, program_of};
 pub use running::{RunSummary, run};

@@ -9,9 +9,9 @@ use atom_spec::Spec;
 use inputs::Input;
 use jvms_machine::machine::{Entry, Limits};
 use program::Program;
+use program_runs::runs::Ending;
+use program_runs::schedule::Chooser;
 use program_runs::{Judgement, ProgramFault, check_program, run_program};
-use runs::Ending;
-use schedule::Chooser;
 use std::alloc::Global;
 use turn_limit::TurnLimit;
 

@@ -8,9 +8,9 @@ use Rattle.jvms_machine.specs.declared.action.Decision.TheVariants as decision
 use Rattle.jvms_machine.specs.declared.action.Lock.TheVariants as lock
 use Rattle.jvms_program.specs.declared.program.Body.{Body}
 use Rattle.local_laws.specs.Local.{is_local_action, is_local_decision}
-use Rattle.machine_parts.specs.Decided.{action_value, decision_value}
-use Rattle.machine_parts.specs.Machine.{Machine, decision_of}
-use Rattle.machine_parts.specs.declared.decision.ActionText.{ActionText}
+use Rattle.invoke.specs.machine_parts.Decided.{action_value, decision_value}
+use Rattle.invoke.specs.machine_parts.Machine.{Machine, decision_of}
+use Rattle.invoke.specs.declared.machine_parts.ActionText.{ActionText}
 
 action_seen : (act : Action (Bor Body) ActionText) → is_local_action (action_value act) ≡ is_local_action act
 action_seen (action.Goes act) = refl

@@ -18,9 +18,9 @@ use Rattle.jvms_machine.specs.Decisions.{TurnDecision}
 use Rattle.jvms_machine.specs.Fields.{reaches}
 use Rattle.jvms_machine.specs.Status.{is_bad}
 use Rattle.jvms_program.specs.declared.program.Body.{Body}
-use Rattle.machine_parts.specs.Decided.{decision_value, action_value, effect_value}
-use Rattle.machine_parts.specs.Machine.{Machine, IsMachine, decision_of, transition_of, with_state}
-use Rattle.machine_parts.specs.declared.decision.ActionText.{ActionText}
+use Rattle.invoke.specs.machine_parts.Decided.{decision_value, action_value, effect_value}
+use Rattle.invoke.specs.machine_parts.Machine.{Machine, IsMachine, decision_of, transition_of, with_state}
+use Rattle.invoke.specs.declared.machine_parts.ActionText.{ActionText}
 use Rattle.machine.specs.declared.applying.Turn.{Turn}
 use Rattle.machine.specs.Others.{IsAsEnabled, IsQuietTurn, LeavesOthers}
 

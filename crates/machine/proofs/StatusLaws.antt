@@ -3,7 +3,7 @@ use Rattle.std.proofs.Common.{◌≡◌, ◌<◌, ◌+◌, ℕ, zero, suc, Bool,
 use Rattle.std.specs.List.{list_any, enumerate_from}
 use Rattle.jvms_machine.specs.declared.machine.Outcome.{Outcome}
 use Rattle.jvms_machine.specs.State.{Thread}
-use Rattle.machine_parts.specs.Machine.{Machine, transition_of}
+use Rattle.invoke.specs.machine_parts.Machine.{Machine, transition_of}
 use Rattle.machine.specs.Statuses.{any_thread}
 
 pub any_is : (test : Outcome → Bool) (m : Machine) (n : ℕ) (xs : List Thread)

@@ -8,4 +8,4 @@ pub mod Started
 pub mod Statuses
 pub mod Tops
 pub mod Views
-pub use Rattle.machine_parts.specs.Machine
+pub use Rattle.invoke.specs.machine_parts.Machine

@@ -2,7 +2,7 @@
 use Rattle.std.specs.Prelude.{◌≡◌, ◌≢◌, ℕ, true, false}
 use Rattle.enabled_laws.specs.Quiet.{is_quiet_decision}
 use Rattle.jvms_machine.specs.Status.{is_bad, is_enabled}
-use Rattle.machine_parts.specs.Machine.{Machine, decision_of, transition_of}
+use Rattle.invoke.specs.machine_parts.Machine.{Machine, decision_of, transition_of}
 
 -- The turn keeps what other threads wait for.
 abbrev pub IsQuietTurn : Machine → ℕ → Type 0

@@ -8,7 +8,7 @@ use Rattle.jvms_machine.specs.Start.{Start, entry_arguments}
 use Rattle.jvms_machine.specs.Opening.{start_of_entry, opening, no_entry, no_limits}
 use Rattle.machine.specs.declared.fault.MachineFault.{MachineFault}
 use Rattle.machine.specs.declared.fault.MachineFault.TheVariants as fault
-use Rattle.machine_parts.specs.Machine.{Machine}
+use Rattle.invoke.specs.machine_parts.Machine.{Machine}
 
 abbrev pub with_arguments : Entry → MethodNumber → Start
 with_arguments e n = record { method = n; arguments = entry_arguments e }

@@ -2,7 +2,7 @@
 use Rattle.std.specs.Prelude.{ℕ, ◌+◌, Bool, false, ◌||◌, List, [], ◌∷◌}
 use Rattle.jvms_machine.specs.declared.machine.Outcome.{Outcome}
 use Rattle.jvms_machine.specs.State.{Thread}
-use Rattle.machine_parts.specs.Machine.{Machine, transition_of}
+use Rattle.invoke.specs.machine_parts.Machine.{Machine, transition_of}
 
 -- Decides whether the next outcome of one of these threads passes a test. The first of them has number `t`.
 abbrev pub any_thread : (Outcome → Bool) → Machine → ℕ → List Thread → Bool

@@ -5,8 +5,8 @@ use Rattle.jvms_machine.specs.declared.state.StackFrame.TheVariants as stack_fra
 use Rattle.jvms_machine.specs.State.{Object, Thread, Frame}
 use Rattle.machine.specs.declared.state.threads.FrameView.{FrameView}
 use Rattle.machine.specs.declared.state.threads.FrameView.TheVariants as frame_view
-use Rattle.heap.specs.Objects.{class_at}
-use Rattle.machine_parts.specs.Machine.{Machine}
+use Rattle.exec_ref.specs.heap.Objects.{class_at}
+use Rattle.invoke.specs.machine_parts.Machine.{Machine}
 
 -- ---- Threads
 

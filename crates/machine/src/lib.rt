@@ -17,7 +17,7 @@ mod status;
 mod turn;
 
 pub use applying::Turn;
-pub use classes::FieldName;
+pub use exec_ref::classes::FieldName;
 pub use fault::MachineFault;
 pub use jvms_machine::machine::{Argument, Entry, Limits, Outcome, Status, ThreadId};
 pub use jvms_machine::state::{Hold, Initialisation};

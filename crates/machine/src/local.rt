@@ -3,18 +3,18 @@
 ghost use Rattle.std.specs.Prelude.{◌≡◌, ◌+◌, ◌<◌, ◌^◌, ◌||◌, ◌&&◌, Some, is_some};
 ghost use Rattle.local_laws.specs.Local.{calls_or_returns, frame_action_in, is_local, is_local_decision};
 ghost use Rattle.jvms_machine.specs.Steps.{frame_decision};
-ghost use Rattle.machine_parts.specs.Machine.{decision_of};
-ghost use Rattle.machine_parts.specs.Ready.{AreNumbered};
+ghost use Rattle.invoke.specs.machine_parts.Machine.{decision_of};
+ghost use Rattle.invoke.specs.machine_parts.Ready.{AreNumbered};
 ghost use Rattle.machine.specs.CanTurn.{HaveTheirCode};
 
 use crate::turn::decide;
 use frames::Frame;
+use invoke::machine_parts::Parts;
 use jvms_machine::action::FrameDecision;
 use jvms_machine::machine::ThreadId;
 use jvms_machine::state::StackFrame;
 use jvms_program::program::Instruction;
 use local_laws::calls_or_returns;
-use machine_parts::Parts;
 
 /// Decides whether an instruction of a frame touches the frame alone.
 fn is_of_frame(frame: &Frame, instruction: &Instruction) -> bool
@@ -22,7 +22,7 @@ fn is_of_frame(frame: &Frame, instruction: &Instruction) -> bool
     ensures { result
         ≡ is_some (frame_action_in (frame_decision frame.now.body instruction.now frame.now.activation)) }
 {
-    match exec::decide(instruction, frame) {
+    match exec_ref::exec::decide(instruction, frame) {
         FrameDecision::Does(_) => true,
         FrameDecision::Throws(_) | FrameDecision::Stops(_) | FrameDecision::Beyond => false,
     }

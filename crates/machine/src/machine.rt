@@ -4,7 +4,7 @@ ghost use Rattle.std.specs.Prelude.{◌≡◌, ◌≤◌, ◌++◌, length, IsOk
 ghost use Rattle.jvms_machine.specs.Opening.{start_of_entry};
 ghost use Rattle.jvms_machine.specs.State.{Sound};
 ghost use Rattle.local_laws.specs.Local.{is_local};
-ghost use Rattle.machine_parts.specs.Machine.{transition_of, with_state, TakesNone};
+ghost use Rattle.invoke.specs.machine_parts.Machine.{transition_of, with_state, TakesNone};
 ghost use Rattle.machine.specs.Others.{LeavesOthers};
 ghost use Rattle.machine.specs.Runs.{AreRunTurns};
 ghost use Rattle.machine.specs.Started.{IsNew};
@@ -18,10 +18,10 @@ use crate::opening::open;
 use crate::peek::peek;
 use crate::running::{step, step_consecutive};
 use crate::start::start_of;
+use invoke::machine_parts::Parts;
+use invoke::program::Program;
 use jvms_machine::machine::{Entry, Limits, Outcome, ThreadId};
 use jvms_machine::value::Value;
-use machine_parts::Parts;
-use program::Program;
 use std::alloc::{AllocError, Global};
 use std::marker::Model;
 use trace::{Recording, Trace};
@@ -42,7 +42,7 @@ pub struct Machine<'p> {
 }
 
 impl<'p> Model for Machine<'p> {
-    ghost use Rattle.machine_parts.specs.Machine.{Machine as Seen, IsMachine};
+    ghost use Rattle.invoke.specs.machine_parts.Machine.{Machine as Seen, IsMachine};
 
     ghost Value = { Seen };
 

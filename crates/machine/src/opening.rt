@@ -7,16 +7,16 @@ ghost use Rattle.jvms_machine.specs.Opening.{opening_heap, opening_initialisatio
 ghost use Rattle.jvms_machine.specs.State.{new_thread, static_fields};
 ghost use Rattle.machine.specs.Started.{with_arguments, opened_machine};
 
-use heap::{Heap, Statics};
+use exec_ref::heap::{Heap, Statics};
+use invoke::machine_parts::Parts;
+use invoke::machine_thread::Thread;
+use invoke::program::Program;
 use jvms_machine::machine::{Argument, Entry, Limits};
 use jvms_machine::state::Initialisation;
 use jvms_machine::value::Value;
 use jvms_program::number::MethodNumber;
 use jvms_program::program::Class;
-use machine_parts::Parts;
-use machine_thread::Thread;
 use monitors::{Monitors, Waiters};
-use program::Program;
 use std::alloc::{AllocError, Global};
 
 /// The reference of the argument of `main`, an array of no strings.

@@ -3,7 +3,7 @@
 ghost use Rattle.std.specs.Prelude.{◌≡◌, IfOk};
 
 use crate::machine::Machine;
-use machine_parts::SavedParts;
+use invoke::machine_parts::SavedParts;
 use std::alloc::AllocError;
 use std::marker::Model;
 
@@ -14,7 +14,7 @@ pub struct SavedMachine<'p> {
 }
 
 impl<'p> Model for SavedMachine<'p> {
-    ghost use Rattle.machine_parts.specs.Machine.{Machine as Seen, IsMachine};
+    ghost use Rattle.invoke.specs.machine_parts.Machine.{Machine as Seen, IsMachine};
 
     ghost Value = { Seen };
 

@@ -3,15 +3,15 @@
 ghost use Rattle.std.specs.Prelude.{◌≡◌};
 ghost use Rattle.std.specs.Option.{option_map};
 ghost use Rattle.jvms_machine.specs.Start.{start_of, takes_arguments, entry_reference, resolved_entry};
-ghost use Rattle.classes.specs.MethodNames.{reference};
+ghost use Rattle.exec_ref.specs.classes.MethodNames.{reference};
 ghost use Rattle.machine.specs.Entries.{is_letter_of, has_letters, takes_all};
 ghost use Rattle.machine.specs.Started.{with_arguments};
 
-use classes::MethodNames;
 use descriptor::{is_initializer_name, is_method_descriptor};
+use exec_ref::classes::MethodNames;
+use invoke::program::Program;
 use jvms_machine::machine::{Argument, Entry};
 use jvms_program::number::MethodNumber;
-use program::Program;
 
 /// The method name of an entry that names a class, `main`.
 const MAIN: [u16; 4] = [109, 97, 105, 110];

@@ -7,12 +7,12 @@ mod objects;
 mod threads;
 
 use crate::machine::Machine;
-use classes::FieldName;
+use exec_ref::classes::FieldName;
+use invoke::program::Program;
 use jvms_machine::machine::Limits;
 use jvms_machine::state::Initialisation;
 use jvms_machine::value::Value;
 use jvms_program::number::ClassNumber;
-use program::Program;
 pub use threads::FrameView;
 
 impl<'p> Machine<'p> {

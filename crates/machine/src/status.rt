@@ -3,14 +3,14 @@
 ghost use Rattle.std.specs.Prelude.{◌≡◌, drop};
 ghost use Rattle.std.specs.List.{list_all};
 ghost use Rattle.jvms_machine.specs.Status.{is_enabled, is_bad, status_of};
-ghost use Rattle.machine_parts.specs.Ready.{AreNumbered};
+ghost use Rattle.invoke.specs.machine_parts.Ready.{AreNumbered};
 ghost use Rattle.machine.specs.CanTurn.{HaveTheirCode};
 ghost use Rattle.machine.specs.Statuses.{any_thread};
 
 use crate::machine::Machine;
 use crate::peek::peek;
+use invoke::machine_parts::Parts;
 use jvms_machine::machine::{Outcome, Status, ThreadId};
-use machine_parts::Parts;
 
 /// Decides whether a thread whose next turn has this outcome is enabled: the turn can be taken.
 #[inline]

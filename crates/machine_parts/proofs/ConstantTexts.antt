@@ -16,7 +16,7 @@ use Rattle.jvms_program.specs.declared.program.Class.{Class}
 use Rattle.jvms_machine.specs.declared.value.Value.{Value}
 use Rattle.jvms_file.specs.declared.descriptor.FieldType.{FieldType}
 use Rattle.jvms_machine.specs.Actions.{constant_value, with_constants}
-use Rattle.program.specs.FieldTexts.{text_constant, constant_text, has_constant_text, is_not_among}
+use Rattle.machine_thread.specs.program.FieldTexts.{text_constant, constant_text, has_constant_text, is_not_among}
 use Rattle.machine_parts.specs.Constants.{is_new, is_new_text, with_text, text_where, text_to_make, text_value}
 
 -- ---- One more string

@@ -6,7 +6,7 @@ use Rattle.jvms_program.specs.declared.program.Class.{Class}
 use Rattle.jvms_program.specs.BuiltIn.{built_in_classes}
 use Rattle.jvms_program.specs.Program.{IsProgram}
 use Rattle.jvms_machine.specs.State.{first_instance}
-use Rattle.heap.specs.Stored.{name_at}
+use Rattle.machine_thread.specs.heap.Stored.{name_at}
 
 -- ---- The built-in classes
 

@@ -4,7 +4,7 @@ use Rattle.std.specs.List.{list_any}
 use Rattle.jvms_program.specs.declared.program.Field.{Field}
 use Rattle.jvms_machine.specs.declared.value.Value.{Value}
 use Rattle.jvms_machine.specs.declared.value.Value.TheVariants as value
-use Rattle.program.specs.FieldTexts.{constant_text, has_constant_text}
+use Rattle.machine_thread.specs.program.FieldTexts.{constant_text, has_constant_text}
 use Rattle.jvms_machine.specs.State.{Object, text_reference}
 
 -- Decides whether a string has no object yet, and none of these fields has it.

@@ -1,7 +1,7 @@
 -- Machines without the objects of their heap, which are saved separately.
 use Rattle.std.specs.Prelude.{List, []}
 use Rattle.jvms_program.specs.declared.program.Class.{Class}
-use Rattle.heap.specs.Objects.{Heap}
+use Rattle.machine_thread.specs.heap.Objects.{Heap}
 use Rattle.machine_parts.specs.Machine.{Machine}
 
 -- Returns the heap of a program without objects.

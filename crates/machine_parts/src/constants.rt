@@ -15,7 +15,7 @@ use jvms_file::descriptor::FieldType;
 use jvms_machine::value::Value;
 use jvms_program::number::{ClassNumber, FieldNumber};
 use jvms_program::program::{Class, Field, Loadable};
-use program::constant_text;
+use machine_thread::program::constant_text;
 use shared_data::shared::Text;
 use std::alloc::AllocError;
 

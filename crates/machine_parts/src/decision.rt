@@ -6,12 +6,12 @@ ghost use Rattle.jvms_machine.specs.Decisions.{bad, never_seen, outcome_of};
 ghost use Rattle.jvms_machine.specs.Fields.{reaches, read_decision, next_action};
 ghost use Rattle.machine_parts.specs.Decided.{decision_value, effect_value};
 
-use frames::Frame;
 use jvms_file::insn::ArrayType;
 use jvms_machine::action::{Action, Decision, Effect, FrameAction};
 use jvms_machine::machine::{BadCause, Outcome};
 use jvms_machine::value::Value;
 use jvms_program::program::Body;
+use machine_thread::frames::Frame;
 use shared_data::shared::Text;
 
 /// A text of an action: one of the program, or the name of an array class. The name is built only when the turn is
@@ -58,7 +58,7 @@ pub fn never_seen<'p>() -> Decided<'p>
 pub fn has_depth(frame: &Frame, takes: u8, gives: u8) -> bool
     ensures { result ≡ has_depth frame.now.body takes gives frame.now.activation }
 {
-    exec::has_depth(frame, takes, gives)
+    machine_thread::exec::has_depth(frame, takes, gives)
 }
 
 /// Returns the decision that the top call continues, with this effect.
@@ -81,7 +81,7 @@ pub fn read_decision<'p>(
     ensures { decision_value result
         ≡ read_decision frame.now (effect_value effect.entry) takes (Some value) }
 {
-    if has_depth(frame, takes, exec::value_size(value)) {
+    if has_depth(frame, takes, machine_thread::exec::value_size(value)) {
         reaches(effect, FrameAction::Push { takes, value })
     } else {
         bad(BadCause::Depth)

@@ -11,7 +11,7 @@ use crate::parts::Parts;
 use jvms_machine::action::{Action, Decision, Exception};
 use jvms_program::thrown::Thrown;
 use machine_thread::Thread;
-use program::Program;
+use machine_thread::program::Program;
 
 /// The `OutOfMemoryError` object that every heap has.
 const OUT_OF_MEMORY: Exception = Exception::Existing { reference: 1 };

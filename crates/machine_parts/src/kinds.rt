@@ -4,9 +4,9 @@ ghost use Rattle.std.specs.Prelude.{◌≡◌, ◌≤◌};
 ghost use Rattle.jvms_file.specs.Descriptors.{units_of};
 ghost use Rattle.jvms_machine.specs.Places.{kind_of_element, kind_of_type};
 
-use exec::kind_size;
 use jvms_file::descriptor::{Element, FieldType, Primitive};
 use jvms_file::insn::Kind;
+use machine_thread::exec::kind_size;
 
 #[inline(always)]
 fn kind_of_element(element: &Element) -> Kind

@@ -22,6 +22,8 @@ pub use decision::{
 };
 pub use kinds::{kind_of_type, type_size};
 pub use locks::{acquire_item, release_item};
+pub use machine_thread;
+pub use machine_thread::{classes, exec, frame_turns, heap, program};
 pub use marks::push_listed;
 pub use monitor_use::{Entering, Locking, Unlocking};
 pub use parts::Parts;

@@ -13,7 +13,6 @@ ghost use Rattle.machine_parts.specs.Decided.{decision_value};
 
 use crate::decision::{Decided, never_seen};
 use crate::parts::Parts;
-use frames::Frame;
 use jvms_machine::action::{Action, Decision, Lock, MonitorUse};
 use jvms_machine::machine::{BlockedOn, Outcome, ThreadId};
 use jvms_machine::state::Hold;
@@ -21,6 +20,7 @@ use jvms_program::number::{ClassNumber, MethodNumber};
 use jvms_program::program::Method;
 use jvms_program::thrown::Thrown;
 use machine_thread::Thread;
+use machine_thread::frames::Frame;
 
 /// The decision on entering a monitor.
 #[derive(Clone, Copy)]

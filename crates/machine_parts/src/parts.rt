@@ -6,14 +6,14 @@ ghost use Rattle.jvms_machine.specs.Threads.{thread_of};
 ghost use Rattle.jvms_machine.specs.Waiting.{is_waiter};
 ghost use Rattle.machine_parts.specs.Saved.{empty_heap, with_objects, without_objects};
 
-use heap::{Heap, Statics};
 use jvms_machine::machine::{Limits, ThreadId};
 use jvms_machine::state::{Hold, Initialisation};
 use jvms_machine::value::Value;
 use jvms_program::number::MethodNumber;
 use machine_thread::Thread;
+use machine_thread::heap::{Heap, Statics};
+use machine_thread::program::Program;
 use monitors::{Monitors, Waiters};
-use program::Program;
 use std::alloc::{AllocError, Global};
 use std::marker::Model;
 use std::mem::replace;

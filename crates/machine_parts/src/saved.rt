@@ -3,7 +3,7 @@
 ghost use Rattle.std.specs.Prelude.{◌≡◌, IfOk};
 
 use crate::parts::Parts;
-use heap::SavedHeap;
+use machine_thread::heap::SavedHeap;
 use std::alloc::AllocError;
 use std::marker::Model;
 

@@ -5,4 +5,6 @@ mod stack;
 mod stack_frame;
 mod thread;
 
+pub use frame_turns;
+pub use frame_turns::{classes, exec, frames, heap, program};
 pub use thread::Thread;

@@ -5,6 +5,7 @@ mod list;
 mod named;
 mod tables;
 
+pub use classes;
 pub use classes::{FieldName, Slot};
 pub use list::Program;
 pub use tables::first_texts::constant_text;

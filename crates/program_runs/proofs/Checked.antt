@@ -4,9 +4,9 @@ use Rattle.std.proofs.lemmas.List.{length-append}
 use Rattle.jvms_machine.specs.declared.trace.Item.{Item}
 use Rattle.jvms_machine.specs.Run.{joined_results, run_from}
 use Rattle.jvms_machine.proofs.RunLaws.{run_append}
-use Rattle.machine.specs.Machine.{Machine, with_state}
-use Rattle.machine.specs.Runs.{run_of}
-use Rattle.schedule.specs.Choosers.{Chooser}
+use Rattle.runs.specs.machine.Machine.{Machine, with_state}
+use Rattle.runs.specs.machine.Runs.{run_of}
+use Rattle.runs.specs.schedule.Choosers.{Chooser}
 use Rattle.runs.specs.Choices.{choices_from, chooser_after_choices}
 use Rattle.runs.proofs.ChosenTurns.{nothing_behind, nothing_left}
 use Rattle.runs.proofs.Continued.{continues, ends, machine_after_choices, rest_of}

@@ -10,10 +10,10 @@ use Rattle.jvms_machine.specs.Limits.{are_limits}
 use Rattle.jvms_machine.specs.Opening.{StartFault, no_limits, start_of_entry, start_within_limits}
 use Rattle.jvms_machine.specs.Start.{Start, start_of}
 use Rattle.jvms_machine.proofs.StartLaws.{entry_is_start}
-use Rattle.machine.specs.Machine.{Machine}
-use Rattle.machine.specs.Started.{opened_machine}
-use Rattle.machine.specs.Runs.{run_of}
-use Rattle.schedule.specs.Choosers.{Chooser}
+use Rattle.runs.specs.machine.Machine.{Machine}
+use Rattle.runs.specs.machine.Started.{opened_machine}
+use Rattle.runs.specs.machine.Runs.{run_of}
+use Rattle.runs.specs.schedule.Choosers.{Chooser}
 use Rattle.runs.specs.Choices.{choices_from}
 use Rattle.runs.proofs.ChosenTurns.{choices_are_few}
 use Rattle.velodrome.specs.Specification.{Specification}

@@ -1,7 +1,7 @@
 -- The condition of a fault. Memory may run out only if nothing else is at fault.
 use Rattle.std.specs.Prelude.{◌≡◌, IsTrue, is_ok, Result, Err}
 use Rattle.jvms_machine.specs.Opening.{StartFault, no_entry, no_limits}
-use Rattle.machine.specs.declared.fault.MachineFault.TheVariants as machine_fault
+use Rattle.runs.specs.declared.machine.MachineFault.TheVariants as machine_fault
 use Rattle.program_runs.specs.declared.fault.ProgramFault.{ProgramFault}
 use Rattle.program_runs.specs.declared.fault.ProgramFault.TheVariants as program_fault
 

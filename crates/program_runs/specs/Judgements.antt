@@ -4,8 +4,8 @@ use Rattle.jvms_program.specs.Program.{IsProgram}
 use Rattle.jvms_machine.specs.declared.trace.Item.{Item}
 use Rattle.jvms_machine.specs.Limits.{are_limits}
 use Rattle.jvms_machine.specs.Start.{IsStart}
-use Rattle.machine.specs.Machine.{Machine}
-use Rattle.machine.specs.Started.{opened_machine}
+use Rattle.runs.specs.machine.Machine.{Machine}
+use Rattle.runs.specs.machine.Started.{opened_machine}
 use Rattle.velodrome.specs.Specification.{Specification}
 use Rattle.velodrome.specs.Transactions.{trace_state_of}
 use Rattle.velodrome.specs.Verdicts.{IsVerdict}

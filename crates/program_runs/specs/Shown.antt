@@ -10,10 +10,10 @@ use Rattle.jvms_machine.specs.declared.trace.Item.{Item}
 use Rattle.jvms_machine.specs.declared.value.Value.{Value}
 use Rattle.jvms_machine.specs.Opening.{StartFault, start_of_entry}
 use Rattle.jvms_machine.specs.Status.{status_of}
-use Rattle.machine.specs.Machine.{Machine}
-use Rattle.machine.specs.Runs.{run_of}
-use Rattle.machine.specs.Started.{opened_machine}
-use Rattle.schedule.specs.Choosers.{Chooser}
+use Rattle.runs.specs.machine.Machine.{Machine}
+use Rattle.runs.specs.machine.Runs.{run_of}
+use Rattle.runs.specs.machine.Started.{opened_machine}
+use Rattle.runs.specs.schedule.Choosers.{Chooser}
 use Rattle.runs.specs.declared.ending.Ending.{Ending}
 use Rattle.runs.specs.Choices.{choices_from, chooser_after_choices}
 use Rattle.runs.specs.Endings.{uncaught_threads}

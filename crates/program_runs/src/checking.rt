@@ -1,8 +1,8 @@
 //! Runs whose items are fed to a checker of atomicity as the run continues, and aren't kept.
 
 ghost use Rattle.std.specs.Prelude.{◌≡◌, ◌≤◌, [], length, IfOk, IfErr, OnOk, Ok};
-ghost use Rattle.machine.specs.Machine.{with_state};
-ghost use Rattle.machine.specs.Runs.{run_of};
+ghost use Rattle.runs.specs.machine.Machine.{with_state};
+ghost use Rattle.runs.specs.machine.Runs.{run_of};
 ghost use Rattle.program_runs.specs.Faults.{IsProgramFault};
 ghost use Rattle.program_runs.specs.Judgements.{IsFedWith, IsJudgementBy, IsJudgementIn, IsOpened, MayFollow, with_items};
 ghost use Rattle.program_runs.specs.Shown.{HasEnding, program_chooser_left, view_of_program, view_of_run};
@@ -14,10 +14,10 @@ use crate::feeding::{Judgement, feed_items, judgement_of};
 use atom_graph::Checker;
 use atom_spec::Spec;
 use jvms_machine::machine::{Entry, Limits};
-use machine::Machine;
 use program::Program;
+use runs::machine::Machine;
+use runs::schedule::Chooser;
 use runs::{Ending, count_turns, ending_after};
-use schedule::Chooser;
 use std::alloc::{AllocError, Global};
 use trace::{Recording, Trace};
 use turn_limit::TurnLimit;

@@ -8,10 +8,10 @@ ghost use Rattle.runs.specs.Endings.{ending_of};
 
 use crate::fault::ProgramFault;
 use jvms_machine::machine::{Entry, Limits};
-use machine::Machine;
 use program::Program;
+use runs::machine::Machine;
+use runs::schedule::Chooser;
 use runs::{Ending, run_to_end};
-use schedule::Chooser;
 use std::alloc::Global;
 
 /// Runs a machine by the choices of a chooser, at most `most` of them.

@@ -3,7 +3,7 @@
 ghost use Rattle.std.specs.Prelude.{◌≡◌};
 ghost use Rattle.program_runs.specs.declared.fault.ProgramFault.TheVariants as fault;
 
-use machine::MachineFault;
+use runs::machine::MachineFault;
 use std::alloc::AllocError;
 use thiserror::Error;
 

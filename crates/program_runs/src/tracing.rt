@@ -7,11 +7,11 @@ ghost use Rattle.runs.specs.Choices.{chooser_after_choices};
 
 use crate::fault::ProgramFault;
 use jvms_machine::machine::{Entry, Limits, ThreadId};
-use machine::Machine;
 use outcome_list::OutcomeList;
 use program::Program;
+use runs::machine::Machine;
+use runs::schedule::Chooser;
 use runs::{Ending, ending_after, take_turns};
-use schedule::Chooser;
 use shared_data::items::Items;
 use std::alloc::Global;
 use trace::{Recording, Trace};

@@ -1,6 +1,6 @@
 -- The first way in which a job's run fails is that of the run, if it counts for a job.
 use Rattle.std.proofs.Common.{Bool, None, Option, Some, ap, cond, false, nat_eq, refl, sym, true, ℕ, ◌&&◌, ◌∙◌, ◌≡◌}
-use Rattle.campaign_jobs.specs.Atomicities.{has_cycle}
+use Rattle.explore_jobs.specs.campaign_jobs.Atomicities.{has_cycle}
 use Rattle.explore_jobs.specs.declared.fate.Fate.{Fate}
 use Rattle.shrinking.specs.Failures.{failure_of, failure_of_job, fails_by, is_of}
 use Rattle.shrinking.specs.declared.failure.Failure.{Failure}

@@ -5,9 +5,9 @@ use Rattle.std.proofs.Math.Logic.{∥∥₁_elim}
 use Rattle.std.specs.Prelude.{Err, Ok, Result, ◌&&◌}
 use Rattle.atom_order.proofs.Cycle.{taken}
 use Rattle.atom_order.proofs.Edges.{cycle_within}
-use Rattle.campaign_jobs.specs.Atomicities.{IsAtomicityOf, has_cycle}
-use Rattle.campaign_jobs.specs.declared.result.Atomicity.{Atomicity}
-use Rattle.campaign_jobs.specs.declared.result.Atomicity.TheVariants as atomicity
+use Rattle.explore_jobs.specs.campaign_jobs.Atomicities.{IsAtomicityOf, has_cycle}
+use Rattle.explore_jobs.specs.declared.campaign_jobs.Atomicity.{Atomicity}
+use Rattle.explore_jobs.specs.declared.campaign_jobs.Atomicity.TheVariants as atomicity
 use Rattle.departures.specs.declared.departure.Departure.{Departure}
 use Rattle.explore_jobs.specs.Fates.{IsFateIn}
 use Rattle.explore_jobs.specs.Plans.{job_shown}
@@ -15,7 +15,7 @@ use Rattle.explore_jobs.specs.declared.fate.Fate.{Fate}
 use Rattle.explore_jobs.specs.declared.plan.Plan.{Plan}
 use Rattle.jvms_machine.specs.Opening.{StartFault}
 use Rattle.jvms_program.specs.declared.program.Class.{Class}
-use Rattle.program_runs.specs.Shown.{Shown}
+use Rattle.explore_jobs.specs.program_runs.Shown.{Shown}
 use Rattle.shrinking.specs.Failures.{fails_by, is_of_status}
 use Rattle.shrinking.specs.Least.{IsTestOf}
 use Rattle.shrinking.specs.declared.failure.Failure.{Failure}

@@ -1,7 +1,7 @@
 -- Ways in which a run fails.
 use Rattle.std.specs.Prelude.{ℕ, ◌==◌, Bool, true, false, ◌&&◌, List, [], ◌∷◌, Option}
 use Rattle.std.specs.List.{find}
-use Rattle.campaign_jobs.specs.Atomicities.{has_cycle}
+use Rattle.explore_jobs.specs.campaign_jobs.Atomicities.{has_cycle}
 use Rattle.explore_jobs.specs.declared.fate.Fate.{Fate}
 use Rattle.jvms_machine.specs.declared.machine.Status.{Status}
 use Rattle.jvms_machine.specs.declared.machine.Status.TheVariants as status

@@ -3,3 +3,4 @@ pub mod Further
 pub mod Least
 pub mod Parts
 pub mod Searches
+pub use Rattle.runs.specs as runs

@@ -12,5 +12,6 @@ pub use departures::Departure;
 pub use explore_jobs::{Fate, Plan};
 pub use failure::Failure;
 pub use naming::departures_of;
+pub use runs;
 pub use search::shrink;
 pub use shrunk::Shrunk;

@@ -12,7 +12,7 @@ use Rattle.jvms_machine.specs.Start.{Start}
 use Rattle.jvms_program.specs.declared.program.Class.{Class}
 use Rattle.machine.specs.Machine.{Machine}
 use Rattle.machine.specs.Started.{opened_machine}
-use Rattle.runs.specs.Choices.{choices_from}
+use Rattle.shrinking.specs.runs.Choices.{choices_from}
 use Rattle.schedule.specs.Choosers.{Chooser}
 
 -- Returns the program if a machine of it can be made for a plan, or why not.

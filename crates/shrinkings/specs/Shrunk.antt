@@ -7,7 +7,7 @@ use Rattle.explore_jobs.specs.declared.fate.Fate.{Fate}
 use Rattle.explore_jobs.specs.declared.plan.Plan.{Plan}
 use Rattle.judge.specs.Programs.{NotRun}
 use Rattle.jvms_program.specs.declared.program.Class.{Class}
-use Rattle.program_runs.specs.Shown.{HasEnding}
+use Rattle.judge.specs.program_runs.Shown.{HasEnding}
 use Rattle.schedule.specs.Choosers.{Chooser}
 use Rattle.shrinking.specs.Failures.{failure_of_job, fails_by}
 use Rattle.shrinking.specs.Least.{IsLeast}

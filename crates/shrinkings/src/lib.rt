@@ -8,7 +8,7 @@ mod shrunk_run;
 mod text;
 mod writing;
 
-pub use exploring::{FailingRun, Plan};
+pub use exploration_text::exploring::{FailingRun, Plan};
 pub use fault::ShrinkFault;
 pub use shrinking::Failure;
 pub use shrunk_run::ShrunkRun;

@@ -6,7 +6,7 @@ ghost use Rattle.judge.specs.Faults.{IsFault, NamesFile};
 ghost use Rattle.shrinkings.specs.Programs.{NamesRun, fitting_program};
 
 use departures::Departure;
-use exploring::Plan;
+use exploration_text::exploring::Plan;
 use judge::JudgeFault;
 use machine::Machine;
 use program::Program;

@@ -1,6 +1,6 @@
 //! What is left of the departures of a schedule's run.
 
-use exploring::FailingRun;
+use exploration_text::exploring::FailingRun;
 use shrinking::Failure;
 
 /// The run of the departures that are left of a schedule's.

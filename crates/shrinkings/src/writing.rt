@@ -13,7 +13,7 @@ use crate::fault::ShrinkFault;
 use crate::running::shrink_inputs;
 use crate::shrunk_run::ShrunkRun;
 use crate::text::shrunk_text;
-use exploring::Plan;
+use exploration_text::exploring::Plan;
 use inputs::Input;
 use schedule::Chooser;
 use std::alloc::Global;

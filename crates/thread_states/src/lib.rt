@@ -5,5 +5,6 @@ mod open;
 mod position;
 mod states;
 
+pub use atom_spec;
 pub use position::ThreadPosition;
 pub use states::ThreadStates;

@@ -4,17 +4,17 @@ ghost use Rattle.std.specs.Prelude.{◌≡◌, [], IsOk, IsTrue, OnOk, OnErr};
 ghost use Rattle.jvms_machine.specs.declared.action.Action.TheVariants as action;
 ghost use Rattle.jvms_machine.specs.Actions.{items_of};
 ghost use Rattle.jvms_machine.specs.Turn.{IsReady};
-ghost use Rattle.machine_parts.specs.Decided.{is_existing};
-ghost use Rattle.machine_parts.specs.Machine.{after};
-ghost use Rattle.machine_parts.specs.Ready.{HasReference};
+ghost use Rattle.invoke.specs.machine_parts.Decided.{is_existing};
+ghost use Rattle.invoke.specs.machine_parts.Machine.{after};
+ghost use Rattle.invoke.specs.machine_parts.Ready.{HasReference};
 ghost use Rattle.trace.specs.Recording.{with_items};
 
+use invoke::machine_parts::{Parts, push_listed};
 use invoke::mark;
 use jvms_machine::action::{Exception, MonitorUse};
 use jvms_machine::machine::ThreadId;
 use jvms_machine::state::Initialisation;
 use jvms_program::number::{ClassNumber, MethodNumber};
-use machine_parts::{Parts, push_listed};
 use std::alloc::AllocError;
 use trace::Recording;
 

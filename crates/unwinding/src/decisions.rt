@@ -6,21 +6,21 @@ ghost use Rattle.jvms_machine.specs.declared.value.Value.TheVariants as value;
 ghost use Rattle.jvms_machine.specs.Arrays.{with_object_of};
 ghost use Rattle.jvms_machine.specs.State.{Object, class_of};
 ghost use Rattle.jvms_machine.specs.Unwinding.{covers, takes_class, handles, handler_of, popped_decision, handler_decision, failed_with, top_decision, unwinding_decision, throwable_decision, throw_decision};
-ghost use Rattle.heap.specs.Objects.{IsNumberOf};
-ghost use Rattle.machine_parts.specs.Decided.{decision_value};
+ghost use Rattle.invoke.specs.heap.Objects.{IsNumberOf};
+ghost use Rattle.invoke.specs.machine_parts.Decided.{decision_value};
 ghost use Rattle.unwinding.specs.Replacing.{is_replaced};
 
 use frames::Frame;
-use heap::ObjectClass;
+use invoke::heap::ObjectClass;
+use invoke::machine_parts::{Decided, Parts, Unlocking, bad, has_depth, never_seen};
+use invoke::machine_thread::Thread;
+use invoke::program::Program;
 use jvms_machine::action::{Action, Decision, Exception};
 use jvms_machine::machine::{BadCause, ThreadId};
 use jvms_machine::state::StackFrame;
 use jvms_machine::value::Value;
 use jvms_program::program::{Catch, ExceptionHandler};
 use jvms_program::thrown::Thrown;
-use machine_parts::{Decided, Parts, Unlocking, bad, has_depth, never_seen};
-use machine_thread::Thread;
-use program::Program;
 
 /// `java/lang/Error`
 const ERROR: [u16; 15] = [

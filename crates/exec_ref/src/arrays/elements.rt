@@ -9,18 +9,18 @@ ghost use Rattle.exec_ref.specs.Asked.{element_by, loads_from, stores_to};
 ghost use Rattle.machine_parts.specs.Decided.{decision_value};
 
 use super::components::{component_class, component_type, is_reference_kind, serves};
-use exec::{element_size, kind_of_elements, top_value};
 use frames::Frame;
 use jvms_file::insn::ArrayKind;
 use jvms_machine::action::Effect;
 use jvms_machine::machine::BadCause;
 use jvms_machine::value::Value;
 use jvms_program::thrown::Thrown;
+use machine_parts::exec::{element_size, kind_of_elements, top_value};
+use machine_parts::machine_thread::Thread;
 use machine_parts::{
     Decided, Parts, bad, has_depth, never_seen, next_action, reaches, read_decision,
     stored_in_component,
 };
-use machine_thread::Thread;
 
 /// Returns an array's element by an int index, or `None` if that is negative or not below the length.
 #[inline(always)]

@@ -14,8 +14,8 @@ use jvms_machine::action::NewObject;
 use jvms_machine::machine::BadCause;
 use jvms_machine::value::Value;
 use jvms_program::thrown::Thrown;
+use machine_parts::machine_thread::Thread;
 use machine_parts::{ActionText, Decided, Parts, bad, has_depth, never_seen};
-use machine_thread::Thread;
 use shared_data::shared::Text;
 
 /// The cap of the counts, which is more than any limit allows.

@@ -8,7 +8,7 @@ ghost use Rattle.jvms_machine.specs.Actions.{arguments_of, enter_items, first_ar
 ghost use Rattle.jvms_machine.specs.Turn.{CanBeLocked, IsReady};
 ghost use Rattle.machine_parts.specs.Machine.{with_state, after};
 ghost use Rattle.machine_parts.specs.Ready.{HasCaller};
-ghost use Rattle.machine_thread.specs.Tops.{gives, with_first_call_made, with_call};
+ghost use Rattle.machine_parts.specs.machine_thread.Tops.{gives, with_first_call_made, with_call};
 ghost use Rattle.trace.specs.Recording.{with_items};
 
 use frames::Frame;

@@ -5,21 +5,21 @@ ghost use Rattle.jvms_machine.specs.declared.action.Action.TheVariants as action
 ghost use Rattle.jvms_machine.specs.Actions.{with_initialisation_frame, thread_with_initializer, items_of, with_changed, with_initialisation, with_texts};
 ghost use Rattle.jvms_machine.specs.State.{text};
 ghost use Rattle.jvms_machine.specs.Turn.{IsReady};
-ghost use Rattle.heap.specs.Objects.{with_new};
+ghost use Rattle.machine_parts.specs.heap.Objects.{with_new};
 ghost use Rattle.machine_parts.specs.Marks.{item_list};
 ghost use Rattle.machine_parts.specs.Ready.{HasTextsToMake};
 ghost use Rattle.machine_parts.specs.Machine.{with_state, after};
 ghost use Rattle.trace.specs.Recording.{with_items};
 
 use frames::Frame;
-use heap::Heap;
 use jvms_machine::machine::ThreadId;
 use jvms_machine::state::Initialisation;
 use jvms_machine::trace::Item;
 use jvms_program::number::{ClassNumber, MethodNumber};
 use jvms_program::program::Body;
+use machine_parts::heap::Heap;
+use machine_parts::machine_thread::Thread;
 use machine_parts::{Parts, push_listed};
-use machine_thread::Thread;
 use shared_data::shared::Text;
 use std::alloc::AllocError;
 use trace::Recording;

@@ -10,12 +10,12 @@ ghost use Rattle.jvms_machine.specs.Calls.{slots_of_call, are_of_types, receiver
 ghost use Rattle.invoke.specs.Calling.{Takes};
 
 use descriptor::parameter_units;
-use exec::is_of_kind;
 use frames::Frame;
 use jvms_file::descriptor::{FieldType, MethodType, ResultType};
 use jvms_file::insn::{Invoke, Kind};
 use jvms_machine::value::Value;
 use jvms_program::uses::is_static_call;
+use machine_parts::exec::is_of_kind;
 use machine_parts::{kind_of_type, type_size};
 
 /// Returns the number of operands that a call instruction takes, where its arguments take `arguments`.

@@ -1,7 +1,7 @@
 //! The first call of a started thread: `run` of its Thread object (Java SE API, `Thread.run`).
 
 ghost use Rattle.std.specs.Prelude.{◌≡◌, Some};
-ghost use Rattle.classes.specs.Places.{IsMethodAt, LocatesItem};
+ghost use Rattle.machine_parts.specs.classes.Places.{IsMethodAt, LocatesItem};
 ghost use Rattle.jvms_program.specs.Resolution.{ResolvedMethod};
 ghost use Rattle.jvms_machine.specs.Calls.{run_of_object, run_decision, selected_run};
 ghost use Rattle.jvms_machine.specs.State.{object_at};
@@ -12,8 +12,8 @@ use super::{Given, first_call};
 use jvms_machine::machine::ThreadId;
 use jvms_program::number::MethodNumber;
 use jvms_program::thrown::Thrown;
+use machine_parts::machine_thread::Thread;
 use machine_parts::{Decided, Parts, never_seen};
-use machine_thread::Thread;
 
 /// `run`
 const RUN: [u16; 3] = [114, 117, 110];

@@ -4,10 +4,10 @@ ghost use Rattle.std.specs.Prelude.{◌≡◌, length, IfOk};
 ghost use Rattle.std.specs.Option.{option_map};
 ghost use Rattle.jvms_machine.specs.State.{monitor_at, text_reference, class_reference};
 ghost use Rattle.jvms_machine.specs.Waiting.{waiters_of};
-ghost use Rattle.heap.specs.Objects.{object_part, class_at, field_of, length_of, element_of, units_of, named_by};
+ghost use Rattle.exec_ref.specs.heap.Objects.{object_part, class_at, field_of, length_of, element_of, units_of, named_by};
 
 use crate::machine::Machine;
-use classes::FieldName;
+use exec_ref::classes::FieldName;
 use jvms_machine::machine::ThreadId;
 use jvms_machine::state::Hold;
 use jvms_machine::value::Value;

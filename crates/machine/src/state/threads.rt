@@ -6,10 +6,10 @@ ghost use Rattle.machine.specs.Views.{thread_at, frame_at, frame_of, uncaught};
 
 use crate::machine::Machine;
 use frames::Frame;
+use invoke::machine_thread::Thread;
 use jvms_machine::machine::ThreadId;
 use jvms_machine::state::{StackFrame, Wait};
 use jvms_program::number::ClassNumber;
-use machine_thread::Thread;
 
 /// A frame on a thread's stack.
 #[derive(Clone, Copy)]

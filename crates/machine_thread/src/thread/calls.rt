@@ -9,7 +9,7 @@ ghost use Rattle.machine_thread.specs.Tops.{HasNext, caller_without_operands};
 
 use super::Thread;
 use crate::stack::{give_below, keep, return_to_stack};
-use frames::Frame;
+use frame_turns::frames::Frame;
 use jvms_machine::state::StackFrame;
 use jvms_machine::value::Value;
 use jvms_program::number::MethodNumber;

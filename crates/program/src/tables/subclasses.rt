@@ -8,7 +8,7 @@ ghost use Rattle.jvms_program.specs.Resolution.{ancestry, class_exists, fits, na
 ghost use Rattle.program.specs.Tables.{instruction_at, name_at};
 
 use crate::list::Program;
-use descriptor::{is_array_name, same_text};
+use classes::descriptor::{is_array_name, same_text};
 use jvms_file::insn::ClassUse;
 use jvms_program::number::{ClassNumber, MethodNumber};
 

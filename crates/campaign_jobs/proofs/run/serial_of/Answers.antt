@@ -1,6 +1,6 @@
 -- The checker was fed the items of the job.
 use Rattle.std.proofs.Common.{ap, ◌∙◌, subst}
-use Rattle.atom_graph.specs.Checking.{Fed}
+use Rattle.program_runs.specs.atom_graph.Checking.{Fed}
 use Rattle.program_runs.specs.Judgements.{IsFedWith}
 use Rattle.campaign_jobs.specs.Reports.{job_shown}
 use Rattle.campaign_jobs.proofs.JobResults.{serial_is}

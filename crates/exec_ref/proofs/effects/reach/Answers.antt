@@ -7,7 +7,7 @@ use Rattle.jvms_machine.specs.Actions.{after_effect, applied_to, changed_to, thr
 use Rattle.jvms_machine.proofs.EffectSoundness.{affected_thread}
 use Rattle.machine_parts.specs.Decided.{effect_value}
 use Rattle.machine_parts.specs.Machine.{Machine, with_state}
-use Rattle.machine_thread.specs.Tops.{HasNext}
+use Rattle.machine_parts.specs.machine_thread.Tops.{HasNext}
 use Rattle.exec_ref.proofs.effects.reach.Goals as goal
 
 index_is : (threads : List Thread) (t : ℕ) (thread other : Thread) → slice_get threads t ≡ Some thread → slice_index_or threads t other ≡ thread

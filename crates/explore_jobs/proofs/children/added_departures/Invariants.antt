@@ -2,7 +2,7 @@ use Rattle.std.proofs.Common.{◌++◌, ◌-◌, ◌≡◌}
 use Rattle.departures.specs.Departures.{choices_of}
 use Rattle.departures.specs.Jobs.{children_in, children_of}
 use Rattle.explore_jobs.specs.Children.{stays_in, turns_in, with_each}
-use Rattle.machine.specs.Machine.{with_state}
+use Rattle.campaign_jobs.specs.machine.Machine.{with_state}
 use Rattle.explore_jobs.proofs.children.added_departures.Given as goal
 
 abbrev pub invariant-loop-position : goal.invariant-loop-position

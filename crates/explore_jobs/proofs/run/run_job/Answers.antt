@@ -4,7 +4,7 @@ use Rattle.std.specs.Prelude.{nat_lt}
 use Rattle.atom_graph.specs.Checking.{Fed}
 use Rattle.explore_jobs.proofs.Fated.{fate_is}
 use Rattle.explore_jobs.specs.Plans.{job_shown}
-use Rattle.program_runs.specs.Judgements.{IsFedWith}
+use Rattle.campaign_jobs.specs.program_runs.Judgements.{IsFedWith}
 use Rattle.explore_jobs.proofs.run.run_job.Goals as goal
 
 pub returns : goal.returns

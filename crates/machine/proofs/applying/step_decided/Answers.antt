@@ -1,9 +1,9 @@
 use Rattle.std.proofs.Common.{◌≡◌, sym, ap, ◌∙◌, subst}
 use Rattle.std.specs.Prelude.{true, false, IsOk, is_ok, Result, Err}
 use Rattle.jvms_machine.specs.Turn.{items_after}
-use Rattle.machine_parts.specs.Decided.{decision_value}
+use Rattle.invoke.specs.machine_parts.Decided.{decision_value}
 use Rattle.machine.specs.Adding.{MakesNone}
-use Rattle.machine_parts.specs.Machine.{decision_of}
+use Rattle.invoke.specs.machine_parts.Machine.{decision_of}
 use Rattle.machine.proofs.Made.{needs_none}
 use Rattle.machine.proofs.applying.step_decided.Goals as goal
 

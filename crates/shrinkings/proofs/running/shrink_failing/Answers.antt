@@ -2,7 +2,7 @@
 use Rattle.std.proofs.Common.{List, subst, true, ◌≡◌}
 use Rattle.departures.specs.declared.departure.Departure.{Departure}
 use Rattle.explore_jobs.specs.Plans.{job_shown}
-use Rattle.program_runs.specs.Shown.{HasEnding}
+use Rattle.judge.specs.program_runs.Shown.{HasEnding}
 use Rattle.shrinking.specs.Failures.{fails_by}
 use Rattle.shrinkings.proofs.running.shrink_failing.Goals as goal
 

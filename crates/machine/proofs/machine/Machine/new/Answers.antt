@@ -5,7 +5,7 @@ use Rattle.jvms_machine.specs.Limits.{are_limits}
 use Rattle.jvms_machine.specs.Opening.{start_within_limits, no_limits}
 use Rattle.jvms_machine.proofs.StartLaws.{entry_is_start}
 use Rattle.jvms_machine.proofs.OpeningSoundness.{opening_is_sound}
-use Rattle.machine_parts.specs.Machine.{IsMachine}
+use Rattle.invoke.specs.machine_parts.Machine.{IsMachine}
 use Rattle.machine.specs.Started.{with_arguments}
 use Rattle.machine.proofs.machine.Machine.new.Goals as goal
 

@@ -1,6 +1,6 @@
 use Rattle.std.proofs.Common.{◌≡◌, is_some, rules, take}
 use Rattle.jvms_machine.specs.State.{text_reference}
-use Rattle.program.specs.FieldTexts.{is_first_text}
+use Rattle.machine_thread.specs.program.FieldTexts.{is_first_text}
 use Rattle.machine_parts.proofs.ConstantTexts.{new_if_first, not_new}
 use Rattle.machine_parts.proofs.parts.Parts.is_new_text.Goals as goal
 
