@@ -13,7 +13,7 @@ _jvmx() {
             trace) words='--entry --args --sched --max --choices --help' ;;
             debug) words='--entry --args --sched --max --help' ;;
             campaign) words='--entry --args --spec --jobs --first --seed --pct --workers --max --stop --summary --help' ;;
-            explore) words='--entry --args --spec --departures --within --runs --max --workers --all --summary --help' ;;
+            explore) words='--entry --args --spec --departures --within --part --runs --max --workers --all --summary --help' ;;
             shrink) words='--entry --args --sched --spec --max --runs --summary --help' ;;
             check) words='--spec --serial --explain --help' ;;
             picture) words='--spec --dot --help' ;;

@@ -49,7 +49,7 @@ pub enum Command<'a> {
     Asm(AsmWords<'a>),
     /// `list`: prints the listing of the class of a FILE.
     List(&'a str),
-    /// `tables`: prints the table that joins the tables of FILEs.
+    /// `tables`: prints what joins the FILEs, the parts of a campaign or of an exploration.
     Tables(TablesWords<'a>),
     /// `needs`: prints what class files use and lack.
     Needs(NeedsWords<'a>),

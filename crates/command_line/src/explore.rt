@@ -1,12 +1,14 @@
 //! Reads the words of `explore`.
 
-ghost use Rattle.std.specs.Prelude.{◌↔◌, ◌^◌, ◌<◌, ◌≤◌, IfOk, IsTrue};
+ghost use Rattle.std.specs.Prelude.{◌↔◌, ◌^◌, ◌<◌, ◌≤◌, IfOk, IfSome, IsTrue};
 ghost use Rattle.command_line.specs.ExploreLimits.{AreWithin};
 
+use crate::entry::natural_of;
 use crate::fault::WordsFault;
 use crate::program_words::{ProgramWords, most_or, number_or, program_words};
-use crate::syntax::{ALL, DEPARTURES, MOST, RUNS, SPECIFICATION, SUMMARY, WITHIN, WORKERS};
+use crate::syntax::{ALL, DEPARTURES, MOST, PART, RUNS, SPECIFICATION, SUMMARY, WITHIN, WORKERS};
 use clap::ArgMatches;
+use exploration_parts::Part;
 use std::alloc::Global;
 use turn_limit::TurnLimit;
 
@@ -15,6 +17,9 @@ const MOST_DEPARTURES: u64 = 16;
 
 /// The greatest number of runs.
 const MOST_RUNS: u64 = 1_000_000_000;
+
+/// The greatest number of parts.
+const MOST_PARTS: u64 = 1_000_000;
 
 /// The greatest number of workers.
 const MOST_WORKERS: u64 = 64;
@@ -41,6 +46,8 @@ pub struct ExploreWords<'a> {
     pub departures: u64,
     /// The patterns of the methods in which threads may be left. Without one they are left wherever their next turn isn't local.
     pub within: Vec<&'a str>,
+    /// The part of the schedules that is explored, of at most 1,000,000. `None` means all.
+    pub part: Option<Part>,
     /// The maximum number of runs, from 1 to 1,000,000,000.
     pub runs: u64,
     /// The number of workers, from 1 to 64.
@@ -123,6 +130,38 @@ fn within_of<'a>(alloc: Global, matches: &ArgMatches<'a>) -> Result<Vec<&'a str>
     Ok(patterns)
 }
 
+/// Decides whether a part is one of its parts, which may be so many.
+pub(crate) fn may_be_part(part: Part) -> bool
+    ensures { IsTrue result ↔ (part.index < part.count) × (part.count ≤ 10 ^ 6) }
+{
+    part.index < part.count && part.count <= MOST_PARTS
+}
+
+/// Reads a part, as in `0/4`.
+pub(crate) fn part_in(word: &str) -> Option<Part>
+    ensures { IfSome result (λ part. (part.index < part.count) × (part.count ≤ 10 ^ 6)) }
+{
+    let (index, count) = word.split_once('/')?;
+    let part = Part {
+        index: natural_of(index)?,
+        count: natural_of(count)?,
+    };
+    if may_be_part(part) { Some(part) } else { None }
+}
+
+/// Returns the part of the schedules that is explored.
+fn part_of(matches: &ArgMatches<'_>) -> Result<Option<Part>, WordsFault>
+    ensures { IfOk result (λ part. IfSome part (λ part. (part.index < part.count) × (part.count ≤ 10 ^ 6))) }
+{
+    let Some(word) = matches.get_str(PART) else {
+        return Ok(None);
+    };
+    match part_in(word) {
+        Some(part) => Ok(Some(part)),
+        None => Err(WordsFault::Words),
+    }
+}
+
 /// Returns the words of `explore`.
 pub(crate) fn explore_words<'a>(
     alloc: Global,
@@ -133,12 +172,14 @@ pub(crate) fn explore_words<'a>(
     let departures = departures_of(matches)?;
     let runs = runs_or(matches, DEFAULT_RUNS)?;
     let workers = workers_of(matches)?;
+    let part = part_of(matches)?;
     let most = most_or(matches, DEFAULT_MOST)?;
     Ok(ExploreWords {
         program: program_words(alloc, matches)?,
         spec: matches.get_str(SPECIFICATION),
         departures,
         within: within_of(alloc, matches)?,
+        part,
         runs,
         workers,
         most,

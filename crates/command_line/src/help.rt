@@ -22,7 +22,7 @@ Usage: jvmx COMMAND WORDS
   picture        draws a trace: threads, transactions, and the cycle
   asm            writes the class file of a source
   list           prints a class file as a source
-  tables         joins the tables of parts of a campaign
+  tables         joins the parts of a campaign or of an exploration
   needs          prints what class files use that isn't there
   help           prints this text; help COMMAND, how that command is used;
                  help CODE, what the code of a refusal means; help P04 -- WORDS,
@@ -310,8 +310,8 @@ jvmx explore: runs a program under all schedules with few departures from a
 default and reports the first run that fails
 
 Usage: jvmx explore --entry E [--args N,N] [--spec F] [--departures D]
-                    [--within P]... [--runs N] [--max N] [--workers W] [--all]
-                    [--summary] FILE...
+                    [--within P]... [--part I/N] [--runs N] [--max N]
+                    [--workers W] [--all] [--summary] FILE...
 
   --entry E       where the program begins (required), as jvmx help run says
   --args N,N      the arguments of a static method, as jvmx help eval says
@@ -321,6 +321,8 @@ Usage: jvmx explore --entry E [--args N,N] [--spec F] [--departures D]
   --within P      leaves threads only in methods that P matches, a pattern as
                   jvmx help check says. With several, in methods that one of
                   them matches (default: threads are left in all methods)
+  --part I/N      runs one of N parts, at most 1000000, of which the first is 0.
+                  jvmx tables joins what they print
   --runs N        how many runs there may be, from 1 to 1000000000 (default:
                   1000000)
   --max N         how many turns each run may take, at most 100000000 (default:
@@ -378,6 +380,12 @@ that leaves one elsewhere isn't covered and may fail. So failing is then the
 first of the runs that leave threads only there.
 
 stopped: no run failed, and --runs came before the end of level D.
+
+With --part the runs of level 1 are dealt out to the parts one by one, and those
+further down go to the part of the run from which they depart. Part 0 has level
+0. The parts have each run once, so they may run on many machines, and --runs is
+what each of them may run. The last line ends with part I/N, and says what it
+says of the part's runs. All parts together cover what is covered without.
 
 Standard error, at a terminal: the summary, which has the lines of the
 specification that match no method, and the commands that run the failing run
@@ -562,23 +570,34 @@ Example: jvmx list examples/G.class
 
 /// The text of `jvmx tables --help`.
 pub const TABLES_HELP: &str = "\
-jvmx tables: joins the tables of parts of a campaign
+jvmx tables: joins the parts of a campaign or of an exploration
 
 Usage: jvmx tables FILE...
 
-  FILE...  tables, as jvmx campaign prints them, each of at most 67108864 bytes
-           (at least one). They stand in any order
+  FILE...  tables, as jvmx campaign prints them, or texts, as jvmx explore --part
+           prints them, each of at most 67108864 bytes (at least one). They stand
+           in any order. The first says which of the two all are
 
-Standard output: the table of all jobs, as jvmx campaign prints it. The jobs are
-those from 0 on, each in one FILE: a job that no FILE has before the last is
-refused, T02, and one that two FILEs have, T03. A FILE that isn't whole is
-refused, T01.
+Standard output, of tables: the table of all jobs, as jvmx campaign prints it.
+The jobs are those from 0 on, each in one FILE: a job that no FILE has before
+the last is refused, T02, and one that two FILEs have, T03. A FILE that isn't
+whole is refused, T01.
 
 A campaign is cut into parts by --first K and --jobs N; the parts may run on
 many machines. With --stop only the last part with jobs may end early.
 
-Exit status: 0 where all jobs are atomic and Finished, else 1; 2 and 3 as
-jvmx --help says. jvmx help CODE explains the code of a refusal.
+Standard output, of texts: what all parts found, as jvmx explore prints it. The
+line of a level counts the runs of all parts. There is one for each level that
+all parts have. The last line is
+- failing, with the first run that fails, if a part found one at these levels;
+- else covered, if each part of all N is there and says covered;
+- else stopped: a part is missing, or it stopped.
+Two FILEs of the same part are refused, T04, and those of other parts or words,
+T05. A FILE that isn't whole is refused, T01.
+
+Exit status: 0 where all jobs are atomic and Finished, or the last line is
+covered, else 1; 2 and 3 as jvmx --help says. jvmx help CODE explains the code
+of a refusal.
 
 Example: jvmx tables /tmp/part0 /tmp/part1
 ";

@@ -57,6 +57,9 @@ pub(crate) const RUNS: &str = "runs";
 /// The option `--within`.
 pub(crate) const WITHIN: &str = "within";
 
+/// The option `--part`.
+pub(crate) const PART: &str = "part";
+
 /// The flag `--all`.
 pub(crate) const ALL: &str = "all";
 
@@ -165,13 +168,14 @@ fn campaign_syntax<'a>(alloc: Global) -> Result<Command<'a>, AllocError> {
     program_syntax(alloc, "campaign")?.args(arguments)
 }
 
-/// Returns the syntax `explore --entry E [--args N,N] [--spec F] [--departures D] [--within P]... [--runs N] [--max N]
-/// [--workers W] [--all] [--summary] FILE...`.
+/// Returns the syntax `explore --entry E [--args N,N] [--spec F] [--departures D] [--within P]... [--part I/N] [--runs N]
+/// [--max N] [--workers W] [--all] [--summary] FILE...`.
 fn explore_syntax<'a>(alloc: Global) -> Result<Command<'a>, AllocError> {
     let arguments = vec![in alloc;
         option(alloc, SPECIFICATION),
         option(alloc, DEPARTURES),
         options(alloc, WITHIN),
+        option(alloc, PART),
         option(alloc, RUNS),
         option(alloc, MOST),
         option(alloc, WORKERS),

@@ -2,11 +2,11 @@
 
 use crate::command::{is_text, parsed};
 use crate::entry::{main_entry, natural_of, static_entry};
-use crate::explore::{may_be_departures, may_be_runs, may_be_workers};
+use crate::explore::{may_be_departures, may_be_runs, may_be_workers, part_in};
 use crate::fault::WordsFault;
 use crate::screen::shown_line;
 use crate::syntax::{
-    ARGUMENTS, DEPARTURES, ENTRY, FIRST, JOBS, MOST, PRIORITIES, RUNS, SEED, WORKERS, syntax,
+    ARGUMENTS, DEPARTURES, ENTRY, FIRST, JOBS, MOST, PART, PRIORITIES, RUNS, SEED, WORKERS, syntax,
 };
 use clap::ArgMatches;
 use escapes::cut_twice;
@@ -106,6 +106,18 @@ fn number_line(
     Ok(None)
 }
 
+/// Returns the line of a part of `explore` that is none.
+fn part_line(alloc: Global, matches: &ArgMatches<'_>) -> Result<Option<String>, AllocError> {
+    let Some(value) = matches.get_str(PART) else {
+        return Ok(None);
+    };
+    if part_in(value).is_some() {
+        return Ok(None);
+    }
+    let wanted = "I/N, with I below N, and N at most 1000000";
+    Ok(Some(wanted_line(alloc, PART, value, wanted)?))
+}
+
 /// Returns whether words could be read. Lack of memory remains an error.
 fn is_read<T: Drop>(read: Result<T, WordsFault>) -> Result<bool, WordsFault> {
     match read {
@@ -181,6 +193,11 @@ fn command_line(
     matches: &ArgMatches<'_>,
 ) -> Result<String, WordsFault> {
     if let Some(line) = number_line(alloc, command, matches)? {
+        return Ok(line);
+    }
+    if command == "explore"
+        && let Some(line) = part_line(alloc, matches)?
+    {
         return Ok(line);
     }
     if has_entry(command)

@@ -12,7 +12,7 @@ use crate::summary::{SameWords, failing_summary};
 use crate::terminal::Terminal;
 use atom_spec::{Spec, SpecFault};
 use command_line::{ExploreWords, ProgramNames, ProgramWords};
-use explorations::{Answer, Bounds, FailingRun, Observer, Plan, Team, write_exploration};
+use explorations::{Answer, Bounds, FailingRun, Observer, Part, Plan, Team, write_exploration};
 use inputs::Input;
 use judge::program_of;
 use needs::unmatched_text;
@@ -113,6 +113,7 @@ pub(crate) fn read_exploration<'w, F: Files>(
         most,
         spec,
         within,
+        part: None,
     };
     Ok(ExploreParts {
         names,
@@ -218,6 +219,11 @@ pub(crate) fn summary_of(
     Ok(summary)
 }
 
+/// Limits the runs of a plan to a part of them, if there is one.
+fn limit_to(plan: &mut Plan, part: Option<Part>) {
+    plan.part = part;
+}
+
 /// Prints the answer of an exploration. At a terminal, or if the words ask for it, it prints a summary too. Returns 0 if all is
 /// covered, else 1.
 pub(crate) fn perform_explore<
@@ -246,7 +252,8 @@ pub(crate) fn perform_explore<
     let (spec, most) = (words.spec, words.most_text);
     let is_summed = words.summary || terminal.errors;
     let within = lines_within(alloc, words.within.as_slice())?;
-    let parts = read_exploration(alloc, words.program, spec, words.most, within, files)?;
+    let mut parts = read_exploration(alloc, words.program, spec, words.most, within, files)?;
+    limit_to(&mut parts.plan, words.part);
     let answer = run_jobs(rt, alloc, &parts, effort, output, terminal)?;
     if is_summed {
         let same = SameWords {

@@ -8,6 +8,7 @@ pub mod eval;
 mod explore;
 mod fault;
 mod files;
+mod joins;
 mod limits;
 mod lines;
 pub mod needing;

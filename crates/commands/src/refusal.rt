@@ -7,6 +7,7 @@ use campaigning::{CampaignFault, JoinFault, TableFault};
 use command_line::{ProgramNames, WordsFault};
 use debugger_script::ScriptFault;
 use debugging::DebugStop;
+use exploration_joins::{JoinFault as PartsFault, PartFault};
 use explorations::ExplorationFault;
 use inputs::InputFault;
 use judge::JudgeFault;
@@ -56,6 +57,10 @@ pub(crate) enum Refusal<'w> {
     Table { file: &'w str, fault: TableFault },
     /// T02, T03: tables can't be joined, or memory ran out for it.
     Join { fault: JoinFault },
+    /// T01: a file isn't the text of a part of an exploration, or memory ran out for it.
+    Part { file: &'w str, fault: PartFault },
+    /// T04, T05: the parts of an exploration can't be joined, or memory ran out for it.
+    JoinParts { fault: PartsFault },
     /// P06: the run of a schedule doesn't fail.
     NotFailing { schedule: &'w str },
     /// P05: standard output or standard error failed.
@@ -208,6 +213,8 @@ impl<'w> Refusal<'w> {
             Refusal::Campaign { fault } if fault.is_memory() => 3,
             Refusal::Table { fault, .. } if *fault == TableFault::Memory => 3,
             Refusal::Join { fault } if *fault == JoinFault::Memory => 3,
+            Refusal::Part { fault, .. } if *fault == PartFault::Memory => 3,
+            Refusal::JoinParts { fault } if *fault == PartsFault::Memory => 3,
             _ => 2,
         }
     }
@@ -232,6 +239,8 @@ impl fmt::Display for Refusal<'_> {
             Refusal::Campaign { fault } => write!(f, "{fault}"),
             Refusal::Table { file, fault } => write!(f, "{file}: {fault}"),
             Refusal::Join { fault } => write!(f, "{fault}"),
+            Refusal::Part { file, fault } => write!(f, "{file}: {fault}"),
+            Refusal::JoinParts { fault } => write!(f, "{fault}"),
             Refusal::NotFailing { schedule } => {
                 write!(f, "{schedule}: {}", ShrinkFault::NotFailing)
             }

@@ -6,6 +6,8 @@ use Rattle.atom_spec.specs.Lines.{pattern_text}
 use Rattle.campaign_text.specs.TableTexts.{result_text}
 use Rattle.departures.specs.declared.departure.Departure.{Departure}
 use Rattle.escapes.specs.Escapes.{name_text}
+use Rattle.exploration_parts.specs.declared.part.Part.{Part}
+use Rattle.exploring.specs.declared.explore_jobs.Plan.{Plan}
 use Rattle.exploring.specs.declared.answer.Answer.{Answer}
 use Rattle.exploring.specs.declared.answer.FailingRun.{FailingRun}
 use Rattle.exploring.specs.declared.answer.LevelRuns.{LevelRuns}
@@ -53,11 +55,14 @@ abbrev pub uncaught_text : List (ℕ × List ℕ) → List ℕ
 uncaught_text [] = []
 uncaught_text (u ∷ rest) = codes " uncaught " ++ decimal u.0 ++ codes " " ++ name_text u.1
 
--- Returns the line of a run that fails: its schedule and the words of its result.
-abbrev pub failing_line : FailingRun → List ℕ
-failing_line run =
+-- Returns the words of a run that fails: its schedule and the words of its result.
+abbrev pub failing_words : FailingRun → List ℕ
+failing_words run =
     codes "failing " ++ schedule_text run.departures.items ++ codes " " ++ result_text run.fate.result ++ uncaught_text run.ending.uncaught
-    ++ codes "\n"
+
+-- Returns the line of a run that fails.
+abbrev pub failing_line : FailingRun → List ℕ
+failing_line run = failing_words run ++ codes "\n"
 
 abbrev pub next_pattern_text : SpecificationLine → List ℕ
 next_pattern_text line = codes " " ++ pattern_text line.pattern
@@ -71,17 +76,23 @@ patterns_text false patterns = codes " within" ++ patterns
 abbrev pub within_text : Specification → List ℕ
 within_text within = patterns_text (length within == 0) (flat_map next_pattern_text within)
 
--- Returns the line of an exploration that covers all up to this number of departures, or all in the methods of patterns.
-abbrev pub covered_line : ℕ → Specification → List ℕ
-covered_line most within = codes "covered " ++ decimal most ++ within_text within ++ codes "\n"
+-- Returns the words of an exploration that covers all up to this number of departures, or all in the methods of patterns.
+abbrev pub covered_words : ℕ → Specification → List ℕ
+covered_words most within = codes "covered " ++ decimal most ++ within_text within
 
--- Returns the last line of an exploration up to this number of departures.
-abbrev pub last_line : ℕ → Specification → Bool → Option FailingRun → List ℕ
-last_line most within covered (Some run) = failing_line run
-last_line most within true None = covered_line most within
-last_line most within false None = codes "stopped\n"
+-- Returns the words of what an exploration up to this number of departures found.
+abbrev pub found_words : ℕ → Specification → Bool → Option FailingRun → List ℕ
+found_words most within covered (Some run) = failing_words run
+found_words most within true None = covered_words most within
+found_words most within false None = codes "stopped"
 
--- Returns the text of the answer of an exploration up to this number of departures, in the methods of these patterns.
-abbrev pub answer_text : ℕ → Specification → Answer → List ℕ
-answer_text most within answer =
-    flat_map level_line answer.levels.items ++ last_line most within answer.is_covered answer.failing
+-- Returns ` part I/N`, or nothing for an exploration of all schedules.
+abbrev pub part_text : Option Part → List ℕ
+part_text None = []
+part_text (Some part) = codes " part " ++ decimal part.index ++ codes "/" ++ decimal part.count
+
+-- Returns the text of the answer of an exploration under a plan, up to this number of departures: a line for each level, and a
+-- last one of what was found. It names the patterns of the methods in which threads were left, and the part.
+abbrev pub answer_text : ℕ → Plan → Answer → List ℕ
+answer_text most plan answer =
+    flat_map level_line answer.levels.items ++ found_words most plan.within answer.is_covered answer.failing ++ part_text plan.part ++ codes "\n"

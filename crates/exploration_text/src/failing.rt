@@ -3,7 +3,7 @@
 ghost use Rattle.std.specs.Prelude.{◌≡◌, ◌++◌, IfOk, OnOk};
 ghost use Rattle.std.specs.List.{flat_map};
 ghost use Rattle.std.specs.String.{string_bytes};
-ghost use Rattle.exploration_text.specs.Texts.{departure_text, failing_line, next_departure_text, schedule_text, uncaught_text};
+ghost use Rattle.exploration_text.specs.Texts.{departure_text, failing_line, failing_words, next_departure_text, schedule_text, uncaught_text};
 
 use campaign_text::push_result;
 use escapes::put_name;
@@ -56,9 +56,9 @@ fn push_uncaught(alloc: Global, line: &mut String, uncaught: &[Uncaught]) -> Res
     Ok(())
 }
 
-/// Returns the line of a run that fails, with its end.
-pub fn failing_line(alloc: Global, run: &FailingRun) -> Result<String, AllocError>
-    ensures { IfOk result (λ line. string_bytes line ≡ failing_line run.now) }
+/// Returns the words of a run that fails.
+pub(crate) fn failing_words(alloc: Global, run: &FailingRun) -> Result<String, AllocError>
+    ensures { IfOk result (λ line. string_bytes line ≡ failing_words run.now) }
 {
     let schedule = schedule_text(alloc, run.departures.as_slice())?;
     let mut line = String::from_str(alloc, "failing ")?;
@@ -66,6 +66,14 @@ pub fn failing_line(alloc: Global, run: &FailingRun) -> Result<String, AllocErro
     line.push_str(" ")?;
     push_result(alloc, &mut line, run.fate.result)?;
     push_uncaught(alloc, &mut line, run.ending.uncaught.as_slice())?;
+    Ok(line)
+}
+
+/// Returns the line of a run that fails, with its end.
+pub fn failing_line(alloc: Global, run: &FailingRun) -> Result<String, AllocError>
+    ensures { IfOk result (λ line. string_bytes line ≡ failing_line run.now) }
+{
+    let mut line = failing_words(alloc, run)?;
     line.push_str("\n")?;
     Ok(line)
 }

@@ -8,4 +8,4 @@ mod within;
 pub use exploring;
 pub use exploring::explore_jobs;
 pub use failing::{failing_line, schedule_text};
-pub use text::answer_text;
+pub use text::{answer_text, level_line, push_part};

@@ -3,12 +3,13 @@
 ghost use Rattle.std.specs.Prelude.{◌≡◌, ◌++◌, IfOk, OnOk};
 ghost use Rattle.std.specs.Fmt.{decimal};
 ghost use Rattle.std.specs.String.{string_bytes};
-ghost use Rattle.exploration_text.specs.Texts.{answer_text, counts_text, covered_line, failures_text, last_line, level_line, rest_text};
+ghost use Rattle.exploration_text.specs.Texts.{answer_text, counts_text, covered_words, failures_text, found_words, level_line, part_text, rest_text};
 
-use crate::failing::failing_line;
+use crate::failing::failing_words;
 use crate::within::push_within;
 use atom_spec::Spec;
-use exploring::{Answer, Level, LevelRuns};
+use exploration_parts::Part;
+use exploring::{Answer, Level, LevelRuns, Plan};
 use std::alloc::{AllocError, Global};
 
 /// Appends a word and a number.
@@ -55,7 +56,7 @@ fn push_rest(alloc: Global, line: &mut String, is_whole: bool, jobs: u64) -> Res
 }
 
 /// Returns the line of a level, with its end.
-fn level_line(alloc: Global, runs: LevelRuns) -> Result<String, AllocError>
+pub fn level_line(alloc: Global, runs: LevelRuns) -> Result<String, AllocError>
     ensures { IfOk result (λ line. string_bytes line ≡ level_line runs) }
 {
     let mut line = counts_text(alloc, runs.level)?;
@@ -64,41 +65,60 @@ fn level_line(alloc: Global, runs: LevelRuns) -> Result<String, AllocError>
     Ok(line)
 }
 
-/// Returns the line of an exploration that covers all up to this number of departures, with its end.
-fn covered_line(alloc: Global, most: u64, within: &Spec) -> Result<String, AllocError>
-    ensures { IfOk result (λ line. string_bytes line ≡ covered_line most within.now) }
+/// Returns the words of an exploration that covers all up to this number of departures.
+fn covered_words(alloc: Global, most: u64, within: &Spec) -> Result<String, AllocError>
+    ensures { IfOk result (λ line. string_bytes line ≡ covered_words most within.now) }
 {
     let mut line = format!(in alloc; "covered {most}")?;
     push_within(&mut line, within.lines())?;
-    line.push_str("\n")?;
     Ok(line)
 }
 
-/// Returns the last line, with its end.
-fn last_line(alloc: Global, most: u64, within: &Spec, answer: &Answer) -> Result<String, AllocError>
-    ensures { IfOk result (λ line. string_bytes line ≡ last_line most within.now answer.now.is_covered answer.now.failing) }
-{
-    match &answer.failing {
-        Some(run) => failing_line(alloc, run),
-        None if answer.is_covered => covered_line(alloc, most, within),
-        None => String::from_str(alloc, "stopped\n"),
-    }
-}
-
-/// Returns the text of the answer of an exploration up to this number of departures: a line for each level, and a last one. If
-/// all is covered, it names the patterns of the methods in which threads were left.
-pub fn answer_text(
+/// Returns the words of what an exploration up to this number of departures found.
+fn found_words(
     alloc: Global,
     most: u64,
     within: &Spec,
     answer: &Answer,
 ) -> Result<String, AllocError>
-    ensures { IfOk result (λ text. string_bytes text ≡ answer_text most within.now answer.now) }
+    ensures { IfOk result (λ line. string_bytes line ≡ found_words most within.now answer.now.is_covered answer.now.failing) }
+{
+    match &answer.failing {
+        Some(run) => failing_words(alloc, run),
+        None if answer.is_covered => covered_words(alloc, most, within),
+        None => String::from_str(alloc, "stopped"),
+    }
+}
+
+/// Appends ` part I/N`, or nothing for an exploration of all schedules.
+pub fn push_part(alloc: Global, line: &mut String, part: Option<Part>) -> Result<(), AllocError>
+    ensures { OnOk result (string_bytes line.new ≡ string_bytes line.old ++ part_text part) }
+{
+    let Some(Part { index, count }) = part else {
+        return Ok(());
+    };
+    let words = format!(in alloc; " part {index}/{count}")?;
+    line.push_str(words.as_str())?;
+    Ok(())
+}
+
+/// Returns the text of the answer of an exploration under a plan, up to this number of departures: a line for each level, and
+/// a last one of what was found. If all is covered, it names the patterns of the methods in which threads were left. It ends
+/// with the part, if the plan has one.
+pub fn answer_text(
+    alloc: Global,
+    most: u64,
+    plan: &Plan,
+    answer: &Answer,
+) -> Result<String, AllocError>
+    ensures { IfOk result (λ text. string_bytes text ≡ answer_text most plan.now answer.now) }
 {
     let mut text = String::new(alloc);
     for runs in answer.levels.as_slice() {
         text.push_str(level_line(alloc, *runs)?.as_str())?;
     }
-    text.push_str(last_line(alloc, most, within, answer)?.as_str())?;
+    text.push_str(found_words(alloc, most, &plan.within, answer)?.as_str())?;
+    push_part(alloc, &mut text, plan.part)?;
+    text.push_str("\n")?;
     Ok(text)
 }

@@ -32,4 +32,4 @@ IsAnswerOf plan bounds (Err why) answer = ⊥
 -- A prefix of the answer's text was written.
 abbrev pub WroteBeginning : Plan → Bounds → Result (List Class) NotRun → Option (List ℕ) → Option (List ℕ) → Type 0
 WroteBeginning plan bounds said old new =
-    (answer : Answer) × IsAnswerOf plan bounds said answer × AppendsBeginning old new (answer_text bounds.departures plan.within answer)
+    (answer : Answer) × IsAnswerOf plan bounds said answer × AppendsBeginning old new (answer_text bounds.departures plan answer)

@@ -6,7 +6,7 @@ mod running;
 mod writing;
 
 pub use exploration_text::exploring::{
-    Answer, Bounds, FailingRun, Fate, Level, LevelRuns, Observer, Plan, Team,
+    Answer, Bounds, FailingRun, Fate, Level, LevelRuns, Observer, Part, Plan, Team,
 };
 pub use exploration_text::{answer_text, schedule_text};
 pub use fault::ExplorationFault;

@@ -5,6 +5,7 @@ ghost use Rattle.explore_jobs.specs.Plans.{fits};
 
 use atom_spec::Spec;
 use campaign_jobs::machine::admits;
+use exploration_parts::Part;
 use jvms_machine::machine::{Entry, Limits};
 use program::Program;
 use turn_limit::TurnLimit;
@@ -23,6 +24,8 @@ pub struct Plan {
     /// Lines with the patterns of the methods in which threads may be left. Without a line they are left wherever their next
     /// turn isn't local.
     pub within: Spec,
+    /// The part of the schedules that are run. `None` means all.
+    pub part: Option<Part>,
 }
 
 impl Plan {

@@ -11,16 +11,18 @@ use Rattle.explore_jobs.specs.campaign_jobs.Atomicities.{IsAtomicityOf, has_cycl
 use Rattle.explore_jobs.specs.declared.campaign_jobs.Atomicity.{Atomicity}
 use Rattle.explore_jobs.specs.declared.campaign_jobs.Atomicity.TheVariants as atomicity
 use Rattle.departures.proofs.Cover.{run_of_job}
-use Rattle.departures.proofs.Lists.{in_level}
+use Rattle.departures.proofs.Lists.{level_has}
 use Rattle.departures.specs.Departures.{choices_of, name_of}
 use Rattle.departures.specs.Jobs.{CanTakeLocals, IsIn, IsJob}
 use Rattle.departures.specs.Turns.{IsSchedule, Turns}
 use Rattle.departures.specs.declared.departure.Departure.{Departure}
+use Rattle.exploration_parts.proofs.Parts.{part_in}
+use Rattle.exploration_parts.specs.declared.part.Part.{Part}
 use Rattle.explore_jobs.specs.Fates.{IsFateIn, IsFateOf, IsFateOn, fails, is_finished}
 use Rattle.explore_jobs.specs.declared.fate.Fate.{Fate}
 use Rattle.explore_jobs.specs.declared.plan.Plan.{Plan}
 use Rattle.explore_laws.specs.Coverage.{EndsWell}
-use Rattle.exploring.specs.Explorations.{first_failing, jobs_at}
+use Rattle.exploring.specs.Explorations.{JobEndsWell, first_failing, jobs_at, jobs_in}
 use Rattle.jvms_machine.specs.Opening.{StartFault, opening, start_of_entry}
 use Rattle.jvms_machine.specs.Start.{Start}
 use Rattle.jvms_machine.specs.State.{State}
@@ -147,9 +149,14 @@ module _ (program : List Class) (plan : Plan) (start : Start) where
       record { fate = fate; is = subst (λ (d : List Departure). IsFateOf program plan d fate) same are.0; good = none.0 }
   has_fate ds (job ∷ jobs) (fate ∷ fates) (inr on) are none = has_fate ds jobs fates on are.1 none.1
 
+  -- What is among the jobs of a level, or of a part of it, is a job of the level.
+  is_job : (part : Option Part) (level : ℕ) (ds : List Departure) → IsIn ds (jobs_in program plan start part level) → IsJob sys local plan.most (opening program) 0 level ds
+  is_job None level ds is = level_has sys local level plan.most (opening program) 0 ds is
+  is_job (Some part) level ds is = level_has sys local level plan.most (opening program) 0 ds (part_in sys local part plan.most (opening program) 0 level ds is)
+
   pub level_ends_well : Made → CanTakeLocals sys local → start_of_entry program plan.limits plan.entry ≡ Ok start → (level : ℕ) (fates : List Fate) → AllZip (IsFateOf program plan) (jobs_at program plan start level) fates → first_failing fates ≡ None
-      → (ds : List Departure) → IsJob sys local plan.most (opening program) 0 level ds → EndsWell program plan.limits start plan.spec (opening program) (choices_of sys plan.most 0 (opening program) 0 ds)
+      → (ds : List Departure) → IsIn ds (jobs_at program plan start level) → JobEndsWell program plan start ds
   level_ends_well made can is level fates are none ds job =
-      let has = has_fate ds (jobs_at program plan start level) fates (in_level sys local level plan.most (opening program) 0 ds job) are (none_later fates 0 (sym (position_from-zero fails fates) ∙ none)) in
-      subst (λ (choices : List ℕ). EndsWell program plan.limits start plan.spec (opening program) choices) (job_choices made can level ds job)
+      let has = has_fate ds (jobs_at program plan start level) fates job are (none_later fates 0 (sym (position_from-zero fails fates) ∙ none)) in
+      subst (λ (choices : List ℕ). EndsWell program plan.limits start plan.spec (opening program) choices) (job_choices made can level ds (is_job plan.part level ds job))
       (ends_well ds has.fate (fated (start_of_entry program plan.limits plan.entry) ds has.fate refl is has.is) has.good)

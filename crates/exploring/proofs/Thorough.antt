@@ -80,8 +80,8 @@ started (Err why) is = absurd (cc)
 -- ---- Level 0
 
 pub thorough_begins : (bounds : Bounds) (search : Search) → search.levels.items ≡ [] → search.left ≡ bounds.runs → search.failing ≡ None → search.exploration.is_good_below ≡ true → search.exploration.fates ≡ []
-    → length search.exploration.jobs.jobs ≡ 1 → search.exploration.count ≡ 1 → IsThoroughBefore bounds search
-thorough_begins bounds search none left_is failing_is good_is fates_are one count_is =
+    → length search.exploration.jobs.jobs ≡ search.exploration.count → search.exploration.count ≤ 1 → IsThoroughBefore bounds search
+thorough_begins bounds search none left_is failing_is good_is fates_are all_kept few =
     let first : nat_le 0 bounds.departures ≡ true = grind (arith, nat_tests) in
     let levels : FollowEachOther bounds [] = λ level. tt in
     let followed : is_followed bounds [] ≡ true = ap (λ b. b && true && (bounds.all || true)) first ∙ or_true bounds.all in
@@ -95,7 +95,7 @@ thorough_begins bounds search none left_is failing_is good_is fates_are one coun
       next = ap (is_followed bounds) none ∙ followed;
       good = good_is ∙ ap are_good (sym none);
       fates = fates_are;
-      kept = λ some. omega (arith, some, one, count_is);
+      kept = λ some. omega (arith, some, all_kept, few);
     }
 
 -- ---- The level is run

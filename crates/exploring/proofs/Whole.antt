@@ -1,13 +1,16 @@
 -- What an exploration on its way covers.
 use Rattle.std.proofs.Common.{Bool, List, [], ◌∷◌, ◌++◌, None, drop, suc, take-add, zero, Option, Some, Ok, ap, arith, false, length, nat_lt, refl, subst, sym, take, true, ℕ, ◌+◌, ◌<◌, ◌≤◌, ◌∙◌, ◌≡◌}
 use Rattle.std.proofs.lemmas.Bool.Decides.{nat_tests}
-use Rattle.std.proofs.lemmas.List.{get_or-take, length-append, length-drop, length-take, take_all}
+use Rattle.std.proofs.lemmas.List.{append-nil, get_or-take, length-append, length-drop, length-take, take_all}
 use Rattle.std.proofs.lemmas.Slice.Zip.{AllZip-long}
 use Rattle.std.specs.List.{AllZip}
-use Rattle.std.specs.Prelude.{IsTrue, is_none, nat_eq, slice_index_or, ◌&&◌}
-use Rattle.departures.specs.Departures.{choices_of}
-use Rattle.departures.specs.Jobs.{AreGoodBelow, AreGoodTo, CanTakeLocals, IsJob, IsReduced, all_children, jobs_of}
+use Rattle.std.specs.Prelude.{IsTrue, cond, is_none, nat_eq, slice_index_or, ◌&&◌}
+use Rattle.departures.proofs.Lists.{in_level}
+use Rattle.departures.specs.Jobs.{AreGoodBelow, AreGoodTo, CanTakeLocals, IsIn, IsReduced, all_children, jobs_of}
 use Rattle.departures.specs.declared.departure.Departure.{Departure}
+use Rattle.exploration_parts.proofs.Parts.{in_a_part}
+use Rattle.exploration_parts.specs.Parts.{has_first, jobs_of_part, those_of}
+use Rattle.exploration_parts.specs.declared.part.Part.{Part}
 use Rattle.explore_jobs.specs.Fates.{IsFateOf}
 use Rattle.explore_jobs.specs.declared.fate.Fate.{Fate}
 use Rattle.explore_jobs.specs.declared.plan.Plan.{Plan}
@@ -18,8 +21,8 @@ use Rattle.exploring.proofs.Found.{job_of, joined}
 use Rattle.exploring.proofs.Grows.{zip_at}
 use Rattle.exploring.proofs.Staying.{staying_can_take}
 use Rattle.exploring.specs.Batches.{job_at}
-use Rattle.exploring.specs.Explorations.{AreFatesOf, Covers, CoversWith, Explored, IsNextLevel, IsOnWay, children_of_all, JobsEndWellBelow, first_failing, is_good, is_whole, jobs_at, level_in}
-use Rattle.exploring.specs.Growths.{AreChildrenIn, IsGrowthOf}
+use Rattle.exploring.specs.Explorations.{AreFatesOf, Covers, CoversWith, Explored, IsNextLevel, IsOnWay, JobEndsWell, JobsEndWellBelow, children_at, children_of_all, first_failing, first_jobs, has_first_job, is_good, is_whole, jobs_at, jobs_in, level_in, next_jobs}
+use Rattle.exploring.specs.Growths.{AreNextIn, IsGrowthOf}
 use Rattle.exploring.specs.declared.growth.Growth.{Growth}
 use Rattle.jvms_machine.proofs.OpeningSoundness.{opening_is_sound}
 use Rattle.jvms_machine.specs.Limits.{are_limits}
@@ -55,23 +58,33 @@ can_take program plan start is made =
     let opened = made_is_opened plan.limits program plan.entry start is made in
     staying_can_take program plan.limits start plan.within (are_local program plan.limits start is opened.limits opened.start).can_take
 
-covered_with : (speaks : Speaks) (reduced : SpeaksReduced) (program : List Class) (plan : Plan) (start : Start) (end : ℕ) (within : Specification) → plan.within ≡ within → IsProgram program → start_of_entry program plan.limits plan.entry ≡ Ok start
-    → JobsEndWellBelow program plan start end → CoversWith program plan start within end
-covered_with speaks reduced program plan start end [] same is made below =
+-- Where all jobs are run, all are good if those that are run are.
+all_below : (program : List Class) (plan : Plan) (start : Start) (end : ℕ) → plan.part ≡ None → JobsEndWellBelow program plan start end
+    → AreGoodBelow (turns_of program plan.limits start) (stays program plan.limits start plan.within) plan.most (opening program) 0 end (EndsWell program plan.limits start plan.spec (opening program))
+all_below program plan start end all below level less ds job =
+    below level less ds
+    (subst (λ (part : Option Part). IsIn ds (jobs_in program plan start part level)) (sym all)
+    (in_level (turns_of program plan.limits start) (stays program plan.limits start plan.within) level plan.most (opening program) 0 ds job))
+
+covered_with : (speaks : Speaks) (reduced : SpeaksReduced) (program : List Class) (plan : Plan) (start : Start) (end : ℕ) (part : Option Part) (within : Specification) → plan.part ≡ part → plan.within ≡ within → IsProgram program → start_of_entry program plan.limits plan.entry ≡ Ok start
+    → JobsEndWellBelow program plan start end → CoversWith program plan start part within end
+covered_with speaks reduced program plan start end (Some part) within own same is made below = below
+covered_with speaks reduced program plan start end None [] own same is made below =
     λ most less choices run.
     let opened = made_is_opened plan.limits program plan.entry start is made in
     let all =
-    subst (λ (within : Specification). AreGoodBelow (turns_of program plan.limits start) (stays program plan.limits start within) plan.most (opening program) 0 end (EndsWell program plan.limits start plan.spec (opening program))) same below
+    subst (λ (within : Specification). AreGoodBelow (turns_of program plan.limits start) (stays program plan.limits start within) plan.most (opening program) 0 end (EndsWell program plan.limits start plan.spec (opening program))) same
+    (all_below program plan start end own below)
     in
     speaks program plan.limits start is opened.limits opened.start plan.spec plan.most (opening program) most (opening_is_sound program plan.limits opened.limits)
     (λ level within ds job. all level (omega (arith, within, less)) ds job) choices run
-covered_with speaks reduced program plan start end (line ∷ lines) same is made below =
+covered_with speaks reduced program plan start end None (line ∷ lines) own same is made below =
     λ most less choices run leaves.
     reduced program plan.limits start (stays program plan.limits start plan.within) (can_take program plan start is made) plan.spec plan.most (opening program) most
-    (λ level within ds job. below level (omega (arith, within, less)) ds job) choices run leaves
+    (λ level within ds job. all_below program plan start end own below level (omega (arith, within, less)) ds job) choices run leaves
 
 pub covered_below : (speaks : Speaks) (reduced : SpeaksReduced) (program : List Class) (plan : Plan) (start : Start) (end : ℕ) → IsProgram program → start_of_entry program plan.limits plan.entry ≡ Ok start → JobsEndWellBelow program plan start end → Covers program plan start end
-covered_below speaks reduced program plan start end is made below = covered_with speaks reduced program plan start end plan.within refl is made below
+covered_below speaks reduced program plan start end is made below = covered_with speaks reduced program plan start end plan.part plan.within refl refl is made below
 
 -- ---- Whole levels
 
@@ -100,17 +113,12 @@ whole_fates e start way made whole =
     let at = way.level start made in
     all_jobs (IsFateOf e.program e.plan) e.jobs.jobs (jobs_at e.program e.plan start (level_in e)) e.fates at.jobs (same_by (length e.fates) e.count whole ∙ at.count) way.fates
 
-abbrev EndsWellAt : List Class → Plan → Start → List Departure → Type 0
-EndsWellAt program plan start ds =
-    EndsWell program plan.limits start plan.spec (opening program)
-    (choices_of (turns_of program plan.limits start) plan.most 0 (opening program) 0 ds)
-
 below_or_at : (b : Bool) (program : List Class) (plan : Plan) (start : Start) (level l : ℕ) → nat_lt l level ≡ b → l < level + 1 → JobsEndWellBelow program plan start level
-    → ((ds : List Departure) → IsJob (turns_of program plan.limits start) (stays program plan.limits start plan.within) plan.most (opening program) 0 level ds → EndsWellAt program plan start ds)
-    → (ds : List Departure) → IsJob (turns_of program plan.limits start) (stays program plan.limits start plan.within) plan.most (opening program) 0 l ds → EndsWellAt program plan start ds
+    → ((ds : List Departure) → IsIn ds (jobs_at program plan start level) → JobEndsWell program plan start ds)
+    → (ds : List Departure) → IsIn ds (jobs_at program plan start l) → JobEndsWell program plan start ds
 below_or_at true program plan start level l is less below here ds job = below l (grind (arith, nat_tests)) ds job
 below_or_at false program plan start level l is less below here ds job =
-    let same : l ≡ level = grind (arith, nat_tests) in here ds (subst (λ n. IsJob (turns_of program plan.limits start) (stays program plan.limits start plan.within) plan.most (opening program) 0 n ds) same job)
+    let same : l ≡ level = grind (arith, nat_tests) in here ds (subst (λ n. IsIn ds (jobs_at program plan start n)) same job)
 
 pub good_to : (made : Made) (e : Explored) (start : Start) → IsProgram e.program → IsOnWay e → start_of_entry e.program e.plan.limits e.plan.entry ≡ Ok start → IsTrue (is_good e) → JobsEndWellBelow e.program e.plan start (level_in e + 1)
 good_to made e start is way begun good level less ds job =
@@ -135,14 +143,32 @@ fate_at e way i fate less read =
 
 -- ---- The first level
 
-pub way_begins : (program : List Class) (plan : Plan) → IsTrue (fits program plan) → IsOnWay (record { program = program; plan = plan; jobs = record { each = 0; jobs = [] ∷ [] }; count = 1; fates = []; is_good_below = true })
-unfolding jobs_of
+first_are : (program : List Class) (plan : Plan) (start : Start) (part : Option Part) → first_jobs part ≡ jobs_in program plan start part 0
+unfolding jobs_of jobs_of_part
+first_are program plan start None = refl
+first_are program plan start (Some part) = refl
+
+pub way_begins : (program : List Class) (plan : Plan) → IsTrue (fits program plan) → IsOnWay (record { program = program; plan = plan; jobs = record { each = 0; jobs = first_jobs plan.part }; count = length (first_jobs plan.part); fates = []; is_good_below = true })
 way_begins program plan is =
     record {
       fits = is;
       fates = tt;
-      level = λ start begun. record { jobs = refl; count = refl; below = λ good level less ds job. absurd (omega (arith, less)) };
+      level = λ start begun.
+          let first = first_are program plan start plan.part in
+          record {
+            jobs = sym (take_all (length (first_jobs plan.part)) (first_jobs plan.part) (omega arith)) ∙ ap (take (length (first_jobs plan.part))) first;
+            count = ap length first;
+            below = λ good level less ds job. absurd (omega (arith, less));
+          };
     }
+
+one_at_most : (b : Bool) → length {A = List Departure} (cond b ([] ∷ []) []) ≤ 1
+one_at_most true = omega arith
+one_at_most false = omega arith
+
+-- Level 0 has at most one job.
+pub one_first : (part : Option Part) → length (first_jobs part) ≤ 1
+one_first part = one_at_most (has_first_job part)
 
 -- ---- More runs of a level
 
@@ -190,13 +216,18 @@ whole_jobs e start way begun whole =
     let part = length-take (length e.fates) e.jobs.jobs in
     at.jobs ∙ take_all (length e.jobs.jobs) level (omega (arith, long, part, many))
 
-pub next_jobs : (e : Explored) (start : Start) → IsOnWay e → start_of_entry e.program e.plan.limits e.plan.entry ≡ Ok start → IsTrue (is_whole e) → children_of_all e.program e.plan start e.jobs.jobs ≡ jobs_at e.program e.plan start (level_in e + 1)
-unfolding jobs_of
-next_jobs e start way begun whole =
-    let next : suc (level_in e) ≡ level_in e + 1 = omega arith in
-    ap (children_of_all e.program e.plan start) (whole_jobs e start way begun whole) ∙ ap (jobs_at e.program e.plan start) next
+next_of_part : (program : List Class) (plan : Plan) (start : Start) (part : Option Part) (level : ℕ) (jobs : List (List Departure)) → jobs ≡ jobs_in program plan start part level → next_jobs program plan start part level jobs ≡ jobs_in program plan start part (suc level)
+unfolding jobs_of jobs_of_part all_children
+next_of_part program plan start None level jobs same = ap (children_of_all program plan start) same
+next_of_part program plan start (Some part) zero jobs same = ap (those_of part 0) (sym (append-nil (children_at program plan start [])))
+next_of_part program plan start (Some part) (suc level) jobs same = ap (children_of_all program plan start) same
 
-pub next_way : (made : Made) (e : Explored) → IsProgram e.program → IsOnWay e → (room : ℕ) (growth : Growth) (good : Bool) → IsTrue (is_whole e) → growth.jobs.each ≡ level_in e + 1 → AreChildrenIn e room growth → good ≡ is_good e
+pub next_are : (e : Explored) (start : Start) → IsOnWay e → start_of_entry e.program e.plan.limits e.plan.entry ≡ Ok start → IsTrue (is_whole e) → next_jobs e.program e.plan start e.plan.part (level_in e) e.jobs.jobs ≡ jobs_at e.program e.plan start (level_in e + 1)
+next_are e start way begun whole =
+    let next : suc (level_in e) ≡ level_in e + 1 = omega arith in
+    next_of_part e.program e.plan start e.plan.part (level_in e) e.jobs.jobs (whole_jobs e start way begun whole) ∙ ap (jobs_at e.program e.plan start) next
+
+pub next_way : (made : Made) (e : Explored) → IsProgram e.program → IsOnWay e → (room : ℕ) (growth : Growth) (good : Bool) → IsTrue (is_whole e) → growth.jobs.each ≡ level_in e + 1 → AreNextIn e room growth → good ≡ is_good e
     → IsOnWay (record { program = e.program; plan = e.plan; jobs = growth.jobs; count = growth.count; fates = []; is_good_below = good })
 next_way made e is way room growth good whole each grown good_is =
     record {
@@ -204,7 +235,7 @@ next_way made e is way room growth good whole each grown good_is =
       fates = tt;
       level = λ start begun.
           let here = grown start begun in
-          let level : children_of_all e.program e.plan start e.jobs.jobs ≡ jobs_at e.program e.plan start growth.jobs.each = next_jobs e start way begun whole ∙ ap (jobs_at e.program e.plan start) (sym each) in
+          let level : next_jobs e.program e.plan start e.plan.part (level_in e) e.jobs.jobs ≡ jobs_at e.program e.plan start growth.jobs.each = next_are e start way begun whole ∙ ap (jobs_at e.program e.plan start) (sym each) in
           let kept : growth.jobs.jobs ≡ take room (jobs_at e.program e.plan start growth.jobs.each) = here.kept ∙ ap (take room) level in
           record {
             jobs = kept ∙ part_of room (jobs_at e.program e.plan start growth.jobs.each) ∙ ap (λ (js : List (List Departure)). take (length js) (jobs_at e.program e.plan start growth.jobs.each)) (sym kept);
@@ -213,7 +244,7 @@ next_way made e is way room growth good whole each grown good_is =
           };
     }
 
-pub next_level_is : (e : Explored) → IsOnWay e → (room : ℕ) (growth : Growth) → IsTrue (is_whole e) → growth.jobs.each ≡ level_in e + 1 → AreChildrenIn e room growth
+pub next_level_is : (e : Explored) → IsOnWay e → (room : ℕ) (growth : Growth) → IsTrue (is_whole e) → growth.jobs.each ≡ level_in e + 1 → AreNextIn e room growth
     → IsNextLevel room e (record { program = e.program; plan = e.plan; jobs = growth.jobs; count = growth.count; fates = []; is_good_below = is_good e })
 next_level_is e way room growth whole each grown =
     record {
@@ -222,8 +253,8 @@ next_level_is e way room growth whole each grown =
       level = each;
       fates = refl;
       below = refl;
-      jobs = λ start begun. (grown start begun).kept ∙ ap (take room) (next_jobs e start way begun whole ∙ ap (jobs_at e.program e.plan start) (sym each));
-      count = λ start begun. (grown start begun).count ∙ ap length (next_jobs e start way begun whole ∙ ap (jobs_at e.program e.plan start) (sym each));
+      jobs = λ start begun. (grown start begun).kept ∙ ap (take room) (next_are e start way begun whole ∙ ap (jobs_at e.program e.plan start) (sym each));
+      count = λ start begun. (grown start begun).count ∙ ap length (next_are e start way begun whole ∙ ap (jobs_at e.program e.plan start) (sym each));
     }
 
 none_kept : {X : Type 0} (n : ℕ) → [] ≡ take {A = X} n []
@@ -234,3 +265,15 @@ pub none_grown : (program : List Class) (plan : Plan) (start : Start) (room : �
 unfolding all_children
 none_grown program plan start room jobs growth none count_is =
     record { kept = none ∙ none_kept room; count = count_is }
+
+-- ---- The parts together
+
+-- If each of so many parts covers its own, all is covered.
+pub parts_cover : (speaks : Speaks) (reduced : SpeaksReduced) (program : List Class) (plan : Plan) (start : Start) → IsProgram program → start_of_entry program plan.limits plan.entry ≡ Ok start
+    → (count : ℕ) → 0 < count → (end : ℕ) → ((index : ℕ) → index < count → Covers program (record plan { part = Some (record { index = index; count = count }) }) start end)
+    → Covers program (record plan { part = None }) start end
+parts_cover speaks reduced program plan start is begun count some end each =
+    covered_below speaks reduced program (record plan { part = None }) start end is begun
+    (λ level less ds job.
+    let own = in_a_part (turns_of program plan.limits start) (stays program plan.limits start plan.within) count some plan.most (opening program) 0 level ds job in
+    each own.index own.below level less ds own.is)

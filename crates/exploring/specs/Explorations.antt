@@ -1,8 +1,11 @@
 -- Explorations: the levels of jobs of a program, and how their runs end.
-use Rattle.std.specs.Prelude.{◌≡◌, ℕ, ◌+◌, ◌≤◌, ◌<◌, Bool, ◌&&◌, ◌==◌, List, [], ◌∷◌, length, take, IsTrue, Option, Ok, is_none}
+use Rattle.std.specs.Prelude.{◌≡◌, ℕ, zero, suc, ◌+◌, ◌≤◌, ◌<◌, Bool, true, ◌&&◌, ◌==◌, cond, List, [], ◌∷◌, length, take, IsTrue, Option, None, Some, Ok, is_none}
 use Rattle.std.specs.List.{AllZip, position}
-use Rattle.departures.specs.Jobs.{AreGoodBelow, IsReduced, all_children, children_of, jobs_of}
+use Rattle.departures.specs.Departures.{choices_of}
+use Rattle.departures.specs.Jobs.{IsIn, IsReduced, all_children, children_of, jobs_of}
 use Rattle.departures.specs.declared.departure.Departure.{Departure}
+use Rattle.exploration_parts.specs.Parts.{has_first, jobs_of_part, those_of}
+use Rattle.exploration_parts.specs.declared.part.Part.{Part}
 use Rattle.explore_jobs.specs.Fates.{IsFateOf, fails}
 use Rattle.explore_jobs.specs.Plans.{fits}
 use Rattle.explore_jobs.specs.Stays.{stays}
@@ -46,10 +49,24 @@ is_whole e = length e.fates == e.count
 abbrev pub is_good : Explored → Bool
 is_good e = e.is_good_below && is_whole e && is_none (first_failing e.fates)
 
+-- Decides whether the job without a departure is run: it belongs to part 0.
+abbrev pub has_first_job : Option Part → Bool
+has_first_job None = true
+has_first_job (Some part) = has_first part
+
+-- Returns the jobs of level 0.
+abbrev pub first_jobs : Option Part → List (List Departure)
+first_jobs part = cond (has_first_job part) ([] ∷ []) []
+
 module _ (program : List Class) (plan : Plan) (start : Start) where
-  -- Returns the jobs of a level, in the order in which they are found.
+  -- Returns the jobs of a level, in the order in which they are found: all, or those of a part.
+  abbrev pub jobs_in : Option Part → ℕ → List (List Departure)
+  jobs_in None level = jobs_of (turns_of program plan.limits start) (stays program plan.limits start plan.within) plan.most (opening program) 0 level
+  jobs_in (Some part) level = jobs_of_part (turns_of program plan.limits start) (stays program plan.limits start plan.within) part plan.most (opening program) 0 level
+
+  -- Returns the jobs of a level that the plan has.
   abbrev pub jobs_at : ℕ → List (List Departure)
-  jobs_at level = jobs_of (turns_of program plan.limits start) (stays program plan.limits start plan.within) plan.most (opening program) 0 level
+  jobs_at level = jobs_in plan.part level
 
   -- Returns the children of a job, by position and thread.
   abbrev pub children_at : List Departure → List (List Departure)
@@ -59,11 +76,23 @@ module _ (program : List Class) (plan : Plan) (start : Start) where
   abbrev pub children_of_all : List (List Departure) → List (List Departure)
   children_of_all jobs = all_children (turns_of program plan.limits start) (stays program plan.limits start plan.within) plan.most (opening program) 0 jobs
 
+  -- Returns the jobs of the next level, where these are those of this one: their children. A part has its own children of the
+  -- job without a departure, which needn't be its own.
+  abbrev pub next_jobs : Option Part → ℕ → List (List Departure) → List (List Departure)
+  next_jobs None level jobs = children_of_all jobs
+  next_jobs (Some part) zero jobs = those_of part 0 (children_at [])
+  next_jobs (Some part) (suc level) jobs = children_of_all jobs
+
+  -- The run of a job ends well.
+  abbrev pub JobEndsWell : List Departure → Type 0
+  JobEndsWell departures =
+      EndsWell program plan.limits start plan.spec (opening program)
+      (choices_of (turns_of program plan.limits start) plan.most 0 (opening program) 0 departures)
+
   -- The runs of all jobs below a level end well.
   abbrev pub JobsEndWellBelow : ℕ → Type 0
-  JobsEndWellBelow level =
-      AreGoodBelow (turns_of program plan.limits start) (stays program plan.limits start plan.within) plan.most (opening program) 0 level
-      (EndsWell program plan.limits start plan.spec (opening program))
+  JobsEndWellBelow end =
+      (level : ℕ) → level < end → (departures : List Departure) → IsIn departures (jobs_at level) → JobEndsWell departures
 
   -- Each run that ends and has fewer departures than this number has no more turns than the plan's, and ends well: all threads
   -- have ended, none by an exception, and its events have no cycle.
@@ -79,14 +108,16 @@ module _ (program : List Class) (plan : Plan) (start : Start) where
       → IsReduced (turns_of program plan.limits start) (stays program plan.limits start plan.within) (opening program) 0 choices
       → (length choices ≤ plan.most) × EndsWell program plan.limits start plan.spec (opening program) choices
 
-  -- Without a pattern all such runs are covered, and with patterns those that leave no thread where it stays.
-  abbrev pub CoversWith : Specification → ℕ → Type 0
-  CoversWith [] end = CoversBelow end
-  CoversWith (line ∷ lines) end = CoversStayingBelow end
+  -- Without a pattern all such runs are covered, and with patterns those that leave no thread where it stays. A part covers the
+  -- runs of its own jobs.
+  abbrev pub CoversWith : Option Part → Specification → ℕ → Type 0
+  CoversWith None [] end = CoversBelow end
+  CoversWith None (line ∷ lines) end = CoversStayingBelow end
+  CoversWith (Some part) lines end = JobsEndWellBelow end
 
   -- What an exploration covers below a level.
   abbrev pub Covers : ℕ → Type 0
-  Covers end = CoversWith plan.within end
+  Covers end = CoversWith plan.part plan.within end
 
 -- The jobs are the first of their level, and the levels below end well if they are said to be good.
 pub record IsAtLevel (e : Explored) (start : Start) : Type 0 where

@@ -52,7 +52,7 @@ impl Batch<'_> {
     }
 
     /// Returns the departures that the children of the job at a place of the batch add.
-    fn added(&self, place: usize) -> Result<Vec<Departure>, AllocError>
+    pub(crate) fn added(&self, place: usize) -> Result<Vec<Departure>, AllocError>
         requires place { self.now.from + place < length self.now.jobs.now.jobs }
         ensures { IfOk result (AddsChildrenOf self.now.program.now self.now.plan.now
             (job_at self.now.jobs.now (self.now.from + place))) }

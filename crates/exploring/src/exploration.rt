@@ -6,8 +6,9 @@ ghost use Rattle.explore_jobs.specs.Fates.{IsFateOf};
 ghost use Rattle.explore_jobs.specs.Plans.{fits, job_shown};
 ghost use Rattle.exploring.specs.Batches.{AddsChildrenOf, job_at};
 ghost use Rattle.exploring.specs.Counts.{level_of};
-ghost use Rattle.exploring.specs.Explorations.{AreFatesOf, Covers, Explored, IsFurther, IsNextLevel, IsOnWay, children_of_all, first_failing, is_good, is_whole, jobs_at, level_in};
-ghost use Rattle.exploring.specs.Growths.{AreChildrenIn, IsGrowthOf};
+ghost use Rattle.exploration_parts.specs.Parts.{those_of};
+ghost use Rattle.exploring.specs.Explorations.{AreFatesOf, Covers, Explored, IsFurther, IsNextLevel, IsOnWay, children_at, children_of_all, first_failing, first_jobs, has_first_job, is_good, is_whole, jobs_at, level_in};
+ghost use Rattle.exploring.specs.Growths.{AreChildrenIn, AreNextIn, IsGrowthOf};
 ghost use Rattle.jvms_machine.specs.Opening.{start_of_entry};
 ghost use Rattle.jvms_machine.specs.Start.{Start};
 ghost use Rattle.program_runs.specs.Shown.{HasEnding};
@@ -17,6 +18,7 @@ use crate::growth::Growth;
 use crate::jobs::Jobs;
 use crate::level::Level;
 use departures::Departure;
+use exploration_parts::Part;
 use explore_jobs::{Ending, Fate, Plan, job_ending};
 use explore_laws::laws::{
     departures_make_the_choices_of_a_schedule, jobs_speak_for_all_runs, jobs_speak_for_reduced_runs,
@@ -71,6 +73,27 @@ impl<'a> Model for Exploration<'a> {
     }) };
 }
 
+/// Returns whether the job without a departure is run.
+fn has_first_job(part: Option<Part>) -> bool
+    ensures { result ≡ has_first_job part }
+{
+    match part {
+        None => true,
+        Some(part) => part.has_first(),
+    }
+}
+
+/// Returns level 0 of a part, or of all.
+fn first_jobs(alloc: Global, part: Option<Part>) -> Jobs
+    ensures { result ≡ record { each = 0; jobs = first_jobs part } }
+{
+    if has_first_job(part) {
+        Jobs::first(alloc)
+    } else {
+        Jobs::without_jobs(alloc, 0)
+    }
+}
+
 impl<'a> Exploration<'a> {
     /// Begins an exploration, at level 0.
     pub fn new(alloc: Global, program: &'a Program, plan: &'a Plan) -> Exploration<'a>
@@ -78,18 +101,20 @@ impl<'a> Exploration<'a> {
         ensures { result ≡ record {
           program = program.now;
           plan = plan.now;
-          jobs = record { each = 0; jobs = [] ∷ [] };
-          count = 1;
+          jobs = record { each = 0; jobs = first_jobs plan.now.part };
+          count = length (first_jobs plan.now.part);
           fates = [];
           is_good_below = true;
         } }
     {
+        let jobs = first_jobs(alloc, plan.part);
+        let count = jobs.len() as u64;
         Exploration {
             alloc,
             program,
             plan,
-            jobs: Jobs::first(alloc),
-            count: 1,
+            jobs,
+            count,
             fates: Vec::new(alloc),
             is_good_below: true,
         }
@@ -329,8 +354,8 @@ impl<'a> Exploration<'a> {
         Ok(())
     }
 
-    /// Returns the jobs of the next level, of which at most `room` are kept.
-    fn next_level<R: Threads + Wait + Sync>(
+    /// Returns the children of the jobs of this level, of which at most `room` are kept.
+    fn children<R: Threads + Wait + Sync>(
         &self,
         rt: &R,
         workers: usize,
@@ -350,6 +375,57 @@ impl<'a> Exploration<'a> {
             from += count;
         }
         Ok(growth)
+    }
+
+    /// Returns the departures that the children of the job without a departure add.
+    fn first_departures(&self) -> Result<Vec<Departure>, AllocError>
+        ensures { IfOk result (AddsChildrenOf self.now.program self.now.plan []) }
+    {
+        let first = Jobs::first(self.alloc);
+        let batch = Batch {
+            alloc: self.alloc,
+            program: self.program,
+            plan: self.plan,
+            jobs: &first,
+            from: 0,
+            count: 1,
+        };
+        batch.added(0)
+    }
+
+    /// Returns the jobs with one departure that belong to a part, of which at most `room` are kept.
+    fn jobs_of_part(&self, part: Part, room: usize) -> Result<Growth, AllocError>
+        ensures each { IfOk result (λ growth. growth.jobs.each ≡ 1) }
+        ensures jobs { IfOk result (λ growth. (start : Start)
+            → start_of_entry self.now.program self.now.plan.limits self.now.plan.entry ≡ Ok start
+            → IsGrowthOf room (those_of part 0 (children_at self.now.program self.now.plan start [])) growth) }
+    {
+        let departures = self.first_departures()?;
+        let own = part.own_of(self.alloc, departures.as_slice())?;
+        let mut growth = Growth::new(self.alloc, 1);
+        growth.add(&[], own.as_slice(), room)?;
+        Ok(growth)
+    }
+
+    /// Returns the jobs of the next level, of which at most `room` are kept.
+    fn next_level<R: Threads + Wait + Sync>(
+        &self,
+        rt: &R,
+        workers: usize,
+        room: usize,
+    ) -> Result<Growth, AllocError>
+        requires workers { 0 < workers }
+        requires level { level_in self.now < 16 }
+        ensures each { IfOk result (λ growth. growth.jobs.each ≡ level_in self.now + 1) }
+        ensures next { IfOk result (AreNextIn self.now room) }
+    {
+        let Some(part) = self.plan.part else {
+            return self.children(rt, workers, room);
+        };
+        if self.jobs.each() > 0 {
+            return self.children(rt, workers, room);
+        }
+        self.jobs_of_part(part, room)
     }
 
     /// Goes on to the next level, of whose jobs at most `room` are kept.

@@ -1,7 +1,7 @@
 //! The refusals of linking, entries, the debugger and campaigns. No line has more than 80 columns.
 
 /// The codes of these refusals, each with the text of `jvmx help CODE`.
-pub(crate) const RUNS: [(&str, &str); 28] = [
+pub(crate) const RUNS: [(&str, &str); 30] = [
     (
         "K01",
         "\
@@ -231,9 +231,9 @@ A number isn't below the number of jobs.
         "\
 T01 Syntax
 
-The line isn't as jvmx campaign writes it, or the file ends before its last
-line, which counts the jobs: the campaign that writes it was ended, or still
-runs. Run that part again.
+The line isn't as jvmx campaign, or jvmx explore --part, writes it, or the file
+ends before its last line: the command that writes it was ended, or still runs.
+Run that part again. The first FILE says which of the two commands wrote all.
 ",
     ),
     (
@@ -253,6 +253,25 @@ T03 RepeatedJob
 
 Two FILEs have the job of this number: one was handed in twice, or a --first or
 a --jobs was wrong.
+",
+    ),
+    (
+        "T04",
+        "\
+T04 RepeatedPart
+
+Two FILEs have the part of this number, the I of --part I/N: one was handed in
+twice, or a --part was wrong.
+",
+    ),
+    (
+        "T05",
+        "\
+T05 OtherExploration
+
+The FILEs aren't those of one exploration: the N of their --part I/N differ, or
+what they cover does, --departures or --within; or a sum exceeds 2^64 - 1. All
+parts need the same words but for --part.
 ",
     ),
 ];

@@ -50,7 +50,7 @@ fn print<R: Threads + Wait + Sync>(
     let text = again!(
         host,
         "answer_text",
-        answer_text(host.alloc(), departures, &plan.within, &answer)
+        answer_text(host.alloc(), departures, plan, &answer)
     )?;
     print!(host; "{text}").ok()?;
     match &answer.failing {

@@ -18,5 +18,6 @@ pub(crate) fn plan_of(rt: &HostRuntime, spec: &str, class: &str) -> Option<Plan>
         most: TurnLimit::new(MOST_TURNS)?,
         spec,
         within,
+        part: None,
     })
 }

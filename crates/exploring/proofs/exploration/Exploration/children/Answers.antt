@@ -5,7 +5,7 @@ use Rattle.exploring.proofs.Whole.{none_grown}
 use Rattle.exploring.specs.Explorations.{Explored, children_of_all, level_in}
 use Rattle.exploring.specs.Growths.{IsGrowthOf}
 use Rattle.exploring.specs.declared.growth.Growth.{Growth}
-use Rattle.exploring.proofs.exploration.Exploration.next_level.Goals as goal
+use Rattle.exploring.proofs.exploration.Exploration.children.Goals as goal
 
 pub loop-from-init : goal.loop-from-init
 loop-from-init g c =

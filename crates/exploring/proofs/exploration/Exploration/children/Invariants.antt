@@ -3,7 +3,7 @@ use Rattle.exploring.specs.Explorations.{children_of_all, level_in}
 use Rattle.exploring.specs.Growths.{IsGrowthOf}
 use Rattle.jvms_machine.specs.Opening.{start_of_entry}
 use Rattle.jvms_machine.specs.Start.{Start}
-use Rattle.exploring.proofs.exploration.Exploration.next_level.Given as goal
+use Rattle.exploring.proofs.exploration.Exploration.children.Given as goal
 
 abbrev pub invariant-loop-from : goal.invariant-loop-from
 invariant-loop-from g l =

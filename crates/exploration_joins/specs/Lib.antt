@@ -1,0 +1,5 @@
+pub mod Joins
+pub mod Numbers
+pub mod Orders
+pub mod Sums
+pub mod Texts
