@@ -130,7 +130,7 @@ fn within_of<'a>(alloc: Global, matches: &ArgMatches<'a>) -> Result<Vec<&'a str>
     Ok(patterns)
 }
 
-/// Decides whether a part is one of its parts, which may be so many.
+/// Decides whether the number of a part is below the number of parts, and that number within its limit.
 pub(crate) fn may_be_part(part: Part) -> bool
     ensures { IsTrue result ↔ (part.index < part.count) × (part.count ≤ 10 ^ 6) }
 {

@@ -1,4 +1,4 @@
--- The parts of an exploration: each has every so many of the schedules with one departure, and those below them.
+-- The parts of an exploration: each of n parts has every nth of the schedules with one departure, and those below them.
 use Rattle.std.specs.Prelude.{ℕ, zero, suc, ◌+◌, ◌%◌, ◌<◌, ◌==◌, max, Bool, cond, List, [], ◌∷◌}
 use Rattle.departures.specs.Jobs.{IsIn, all_children, jobs_of}
 use Rattle.departures.specs.Turns.{Turns}
@@ -27,7 +27,7 @@ module _ {S : Type 0} (sys : Turns S) (is_local : S → ℕ → Bool) where
   jobs_of_part part turns s last (suc (suc level)) =
       all_children sys is_local turns s last (jobs_of_part part turns s last (suc level))
 
-  -- The job is among those of one of so many parts.
+  -- The job is among those of one of this number of parts.
   pub record IsInAPart (count turns : ℕ) (s : S) (last level : ℕ) (ds : List Departure) : Type 0 where
     pub index : ℕ
     pub below : index < count

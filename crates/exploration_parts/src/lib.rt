@@ -1,4 +1,4 @@
-//! Parts of an exploration: each has every so many of the schedules with one departure, and those below them.
+//! Parts of an exploration: each of n parts has every nth of the schedules with one departure, and those below them.
 #![tactic(auto)]
 
 pub mod laws;

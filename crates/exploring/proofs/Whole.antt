@@ -268,7 +268,7 @@ none_grown program plan start room jobs growth none count_is =
 
 -- ---- The parts together
 
--- If each of so many parts covers its own, all is covered.
+-- If each of n parts covers its own, all is covered.
 pub parts_cover : (speaks : Speaks) (reduced : SpeaksReduced) (program : List Class) (plan : Plan) (start : Start) → IsProgram program → start_of_entry program plan.limits plan.entry ≡ Ok start
     → (count : ℕ) → 0 < count → (end : ℕ) → ((index : ℕ) → index < count → Covers program (record plan { part = Some (record { index = index; count = count }) }) start end)
     → Covers program (record plan { part = None }) start end

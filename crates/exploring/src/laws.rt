@@ -10,7 +10,7 @@ ghost use Rattle.jvms_program.specs.declared.program.Class.{Class};
 
 use explore_laws::laws::{jobs_speak_for_all_runs, jobs_speak_for_reduced_runs};
 
-/// Proves that parts cover together what an exploration of all schedules covers: if each of so many parts covers the runs of its
+/// Proves that parts cover together what an exploration of all schedules covers: if each of n parts covers the runs of its
 /// own jobs below a level, all is covered below that level.
 pub fn parts_cover_together()
     ensures { (program : List Class) (plan : Plan) (start : Start)
